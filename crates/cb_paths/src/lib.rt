@@ -1,0 +1,12 @@
+//! What every other crate of `codebasin` stands on: byte texts, want of memory, limits and languages.
+#![tactic(auto)]
+
+mod bytes;
+mod language;
+mod limits;
+mod memory;
+
+pub use bytes::Bytes;
+pub use language::Language;
+pub use limits::{SECTION_LIMIT, SOURCE_BYTE_LIMIT, SOURCE_LINE_LIMIT};
+pub use memory::NoMemory;
