@@ -3,8 +3,8 @@ use Rattle.std.proofs.Common.{◌≡◌, ℕ, ◌+◌, ◌-◌, ◌<◌, ◌≤�
 use Rattle.std.proofs.lemmas.List.{drop-drop, nil_from_length}
 use Rattle.std.proofs.Math.Seq.{take-add}
 use Rattle.std.proofs.lemmas.Grind.{common_steps}
-use Rattle.std.specs.Io.KnownBytes.{Appends}
-use Rattle.std.proofs.KnownBytes.{Appends-trans}
+use Rattle.std.specs.Io.KnownBytes.{Appends, Consumes}
+use Rattle.std.proofs.KnownBytes.{Appends-trans, Consumes-trans}
 use Rattle.std.specs.declared.option.Option.{Option}
 
 -- the bytes after a place are those that were read into the front of a buffer and those behind them
@@ -20,3 +20,9 @@ nothing_left bytes at n most count some none = nil_from_length _ (grind (arith, 
 pub Appends-more : (a b c : Option (List ℕ)) (bytes : List ℕ) (at n : ℕ) → Appends a b (take at bytes) → Appends b c (take n (drop at bytes)) → Appends a c (take (at + n) bytes)
 Appends-more a b c bytes at n before more =
     subst (Appends a c) (sym (take-add at n bytes)) (Appends-trans a b c _ _ before more)
+
+-- what was read grows by what stands behind it in the buffer
+pub Consumes-more : (a b c : Option (List ℕ)) (old new : List ℕ) (at n : ℕ) → take at new ≡ take at old → Consumes a b (take at old) → Consumes b c (take n (drop at new))
+    → Consumes a c (take (at + n) new)
+Consumes-more a b c old new at n front before more =
+    subst (Consumes a c) (sym (take-add at n new)) (Consumes-trans a b c _ _ (subst (Consumes a b) (sym front) before) more)
