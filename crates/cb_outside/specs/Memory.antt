@@ -1,5 +1,5 @@
 -- What the objects in memory stand for, and what their next call does.
-use Rattle.std.specs.Prelude.{◌≡◌, ℕ, ◌+◌, ◌-◌, ◌<◌, ◌≤◌, ◌⊎◌, min, max, List, length, Contains, slice_get, Option, Some, None}
+use Rattle.std.specs.Prelude.{ℕ, ◌+◌, ◌-◌, ◌<◌, ◌≤◌, ◌⊎◌, min, max, List, length, Contains, slice_get, Option, Some, None}
 
 -- a source in memory: its bytes left, how many bytes each call gives at most, the calls that fail, how many calls
 -- there were, and how many of them failed (own)

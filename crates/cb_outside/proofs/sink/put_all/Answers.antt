@@ -1,4 +1,4 @@
-use Rattle.std.proofs.Common.{◌∙◌, arith, length-drop}
+use Rattle.std.proofs.Common.{◌∙◌, arith}
 use Rattle.std.proofs.lemmas.Grind.{common_steps}
 use Rattle.cb_outside.proofs.Prefixes.{Appends-more}
 use Rattle.cb_outside.proofs.sink.put_all.Goals as goal
