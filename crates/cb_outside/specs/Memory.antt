@@ -1,8 +1,7 @@
 -- What the objects in memory stand for, and what their next call does.
 use Rattle.std.specs.Prelude.{ℕ, ◌+◌, ◌-◌, ◌<◌, ◌≤◌, ◌⊎◌, min, max, List, length, Contains, slice_get, Option, Some, None}
 
--- a source in memory: its bytes left, how many bytes each call gives at most, the calls that fail, how many calls
--- there were, and how many of them failed (own)
+-- a source in memory: bytes left, the most that each call gives, the calls that fail, calls so far, failed ones (own)
 pub record SourceState : Type 0 where
   pub left : List ℕ
   pub pieces : List ℕ
@@ -10,8 +9,7 @@ pub record SourceState : Type 0 where
   pub calls : ℕ
   pub faults : ℕ
 
--- a sink in memory: its bytes taken, how many it takes in all, the calls that fail, how many calls there were, and
--- how many of them failed (own)
+-- a sink in memory: bytes taken, how many it takes in all, the calls that fail, calls so far, failed ones (own)
 pub record SinkState : Type 0 where
   pub taken : List ℕ
   pub room : ℕ

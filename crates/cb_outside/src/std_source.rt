@@ -1,5 +1,5 @@
 //! Standard input as a source.
-ghost use Rattle.std.specs.Prelude.{◌≡◌, ◌≤◌, length, None, IfOk, OnOk, OnErr};
+ghost use Rattle.std.specs.Prelude.{◌≡◌, ◌≤◌, length, IfOk, OnOk, OnErr};
 ghost use Rattle.std.specs.Io.KnownBytes.{ReadConsumes};
 ghost use Rattle.cb_outside.specs.Outside.{Rose, one_more};
 
@@ -8,7 +8,7 @@ use crate::source::Source;
 use std::io::Read;
 use std::marker::Model;
 
-/// Standard input. It tells nothing of its bytes; contracts see it as its count of errors.
+/// Standard input. It tells of its bytes what the runtime's reader tells, and the system's reader tells nothing.
 #[derive(Drop)]
 pub struct StdSource<R: Input> {
     reader: R::Reader,
@@ -16,17 +16,17 @@ pub struct StdSource<R: Input> {
 }
 
 impl<R: Input> Model for StdSource<R> {
-    ghost use Rattle.std.specs.Prelude.{ℕ};
+    ghost use Rattle.cb_outside.specs.Standard.{InputState};
 
-    ghost Value = { ℕ };
+    ghost Value = { InputState };
 
-    ghost view = { λ s. s.errors };
+    ghost view = { λ s. record { left = R.Reader.remaining s.reader; faults = s.errors } };
 }
 
 impl<R: Input> StdSource<R> {
     /// The standard input of this runtime.
     pub fn new(rt: &R) -> StdSource<R>
-        ensures { result ≡ 0 }
+        ensures { result.faults ≡ 0 }
     {
         StdSource {
             reader: rt.reader(),
@@ -36,18 +36,18 @@ impl<R: Input> StdSource<R> {
 }
 
 impl<R: Input> Source for StdSource<R> {
-    ghost left = { λ _. None };
+    ghost left = { λ s. s.left };
 
-    ghost faults = { λ s. s };
+    ghost faults = { λ s. s.faults };
 
     fn read(&mut self, buf: &mut [u8]) -> Result<usize, Failed>
         ensures within { IfOk result (λ n. n ≤ length buf.new) }
-        ensures content { ReadConsumes None None result buf.new }
-        ensures kept { OnOk result (self.new ≡ self.old) }
-        ensures rose { OnErr result (Rose self.old self.new) }
-        ensures never_falls { self.old ≤ self.new }
+        ensures content { ReadConsumes self.old.left self.new.left result buf.new }
+        ensures kept { OnOk result (self.new.faults ≡ self.old.faults) }
+        ensures rose { OnErr result (Rose self.old.faults self.new.faults) }
+        ensures never_falls { self.old.faults ≤ self.new.faults }
 
-        ensures err { OnErr result (self.new ≡ one_more self.old) }
+        ensures err { OnErr result (self.new.faults ≡ one_more self.old.faults) }
     {
         match self.reader.read(buf) {
             Ok(count) => Ok(count),

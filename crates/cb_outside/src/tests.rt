@@ -63,7 +63,7 @@ fn a_source_is_read_up_to_a_limit(rt: HostRuntime) -> Result<(), Fail> {
     }
     let mut failing = source(rt.alloc(), &[1, 2], &[3])?;
     let outcome = take_up_to(rt.alloc(), &mut failing, 8);
-    assert!(rt; outcome.is_err_and(|e| e == ReadError::Failed));
+    assert_eq!(rt; outcome.err(), Some(ReadError::Failed));
     Ok(())
 }
 
