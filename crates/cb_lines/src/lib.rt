@@ -1,0 +1,12 @@
+//! The marks of a source, and sets of line numbers.
+#![tactic(auto)]
+
+mod line_set;
+mod mark;
+mod splicing;
+mod walking;
+
+pub use line_set::{Lines, Span};
+pub use mark::{Mark, Marks};
+pub use splicing::marks;
+pub use walking::Walk;
