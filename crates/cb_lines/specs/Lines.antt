@@ -24,6 +24,11 @@ abbrev pub has_line : List ℕ → ℕ → Bool
 has_line [] line = false
 has_line (l ∷ ls) line = (l == line) || has_line ls line
 
+-- the union of two sets: the second with each number of the first added (own)
+abbrev pub union_of : List ℕ → List ℕ → List ℕ
+union_of [] set = set
+union_of (l ∷ ls) set = union_of ls (with_line l set)
+
 -- the numbers of a span, from its first to its last
 abbrev pub span_lines : Span → List ℕ
 span_lines span = range_with_len span.first (span.last + 1 - span.first)

@@ -69,8 +69,10 @@ impl<'a> Walk<'a> {
         ensures passed { OnOk result (self.new ≡ drop count self.old) }
         ensures counted { OnOk result (lines.new ≡ with_lines (take count self.old) lines.old) }
     {
-        let _ = count;
-        let _ = lines;
-        Err(NoMemory)
+        for mark in &self.items[..count] {
+            lines.add(mark.line)?;
+        }
+        self.pass(count);
+        Ok(())
     }
 }
