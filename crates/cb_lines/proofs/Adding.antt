@@ -6,7 +6,7 @@ use Rattle.std.proofs.lemmas.List.{take-append-drop, drop_more, drop_all, get_or
 use Rattle.std.proofs.lemmas.List.Concat.{flat_map-append}
 use Rattle.cb_lines.specs.declared.line_set.Span.{Span}
 use Rattle.cb_lines.specs.Lines.{with_line, span_lines, AreMaximal}
-use Rattle.cb_lines.proofs.Spans.{lines, Fits, bound, Fits-from_maximal, maximal_from_Fits, Fits-left, Fits-right, Fits-append, bound-take, with_line-before, with_line-behind, with_line-past, with_line-among, range-append, span_lines-first}
+use Rattle.cb_lines.proofs.SpanLists.{lines, Fits, bound, Fits-from_maximal, maximal_from_Fits, Fits-left, Fits-right, Fits-append, bound-take, with_line-before, with_line-behind, with_line-past, with_line-among, range-append, span_lines-first}
 
 -- what adding a line to spans leaves
 pub record Added (line : ℕ) (old new : List Span) : Type 0 where

@@ -1,14 +1,14 @@
 -- Rising lists of numbers are known by the numbers that they hold.
-use Rattle.std.proofs.Common.{IsTrue, ◌↔◌, take, drop, ◌≡◌, ℕ, ◌+◌, ◌-◌, ◌<◌, ◌≤◌, Bool, true, false, ◌||◌, eqb, List, [], ◌∷◌, ◌++◌, length, get_or, refl, sym, ap, ◌∙◌, subst, suc, zero, inl, inr, arith}
+use Rattle.std.proofs.Common.{◌≡◌, ℕ, ◌+◌, ◌-◌, ◌<◌, ◌≤◌, Bool, true, false, ◌||◌, eqb, IsTrue, ◌↔◌, List, [], ◌∷◌, ◌++◌, length, get_or, take, drop, refl, sym, ap, ◌∙◌, subst, suc, zero, inl, inr, arith}
 use Rattle.std.specs.List.{range_with_len}
 use Rattle.std.specs.List.Sorted.{IsStrictlyIncreasing}
-use Rattle.std.proofs.lemmas.Bool.{cases_Bool, cases_eq, cases_lt, ne_eqb, eq-eqb, false≢true}
+use Rattle.std.proofs.lemmas.Bool.{cases_Bool, cases_eq, cases_lt, cases_order, le-ltb, lt-ltb, ne_eqb, eq-eqb, false≢true}
 use Rattle.std.proofs.lemmas.List.{length-append, length-take, get_or-take, take-append-drop, take_more, drop_more, drop_all}
 use Rattle.std.proofs.lemmas.List.Concat.{flat_map-append}
 use Rattle.std.proofs.lemmas.List.FromFn.{length-range_with_len}
 use Rattle.cb_lines.specs.declared.line_set.Span.{Span}
-use Rattle.cb_lines.specs.Lines.{has_line, span_lines, AreMaximal}
-use Rattle.cb_lines.proofs.Spans.{lines, Fits, Fits-right, Fits-from_maximal, bound}
+use Rattle.cb_lines.specs.Lines.{with_line, has_line, union_of, span_lines, AreMaximal}
+use Rattle.cb_lines.proofs.SpanLists.{lines, Fits, Fits-right, Fits-from_maximal, bound}
 
 -- numbers that rise, none below a bound
 abbrev pub Rising : ℕ → List ℕ → Type 0
@@ -134,3 +134,71 @@ length-lines-le low (s ∷ ss) h =
     let begins : low ≤ s.first = h.0 in
     let ends : s.first ≤ s.last = h.1 in
     omega (arith, length-append (span_lines s) (lines ss), length-range_with_len s.first (s.last + 1 - s.first), length-lines-le (s.last + 2) ss h.2)
+
+or_same : (x y : Bool) → (x || y) ≡ (x || (x || y))
+or_same true y = refl
+or_same false y = refl
+
+or_swap : (x y z : Bool) → (x || (y || z)) ≡ (y || (x || z))
+or_swap true true z = refl
+or_swap true false z = refl
+or_swap false true z = refl
+or_swap false false z = refl
+
+-- one number more, and the numbers of one set more
+pub has-with_line : (x : ℕ) (ls : List ℕ) (l : ℕ) → has_line (with_line x ls) l ≡ (eqb x l || has_line ls l)
+has-with_line x [] l = refl
+has-with_line x (y ∷ ls) l =
+    elim (cases_order x y) [
+      | inl same ↦ rw (le-ltb x y (omega arith), eq-eqb x y same) (rw same (or_same (eqb y l) (has_line ls l)))
+      | inr differ ↦ elim differ [
+        | inl lt ↦ rw (lt-ltb x y lt) refl
+        | inr gt ↦ rw (le-ltb x y (omega arith), ne_eqb x y (λ e. omega (arith, e)), has-with_line x ls l) (or_swap (eqb y l) (eqb x l) (has_line ls l))
+      ]
+    ]
+
+pub Rising-with_line : (low x : ℕ) (ls : List ℕ) → low ≤ x → Rising low ls → Rising low (with_line x ls)
+Rising-with_line low x [] le h = (le, tt)
+Rising-with_line low x (y ∷ ls) le h =
+    elim (cases_order x y) [
+      | inl same ↦ rw (le-ltb x y (omega arith), eq-eqb x y same) h
+      | inr differ ↦ elim differ [
+        | inl lt ↦ rw (lt-ltb x y lt) (le, (omega arith, h.1))
+        | inr gt ↦ rw (le-ltb x y (omega arith), ne_eqb x y (λ e. omega (arith, e))) (h.0, Rising-with_line (y + 1) x ls (omega arith) h.1)
+      ]
+    ]
+
+pub has-union_of : (xs ys : List ℕ) (l : ℕ) → has_line (union_of xs ys) l ≡ (has_line xs l || has_line ys l)
+has-union_of [] ys l = refl
+has-union_of (x ∷ xs) ys l =
+    has-union_of xs (with_line x ys) l
+    ∙ (ap (λ (b : Bool). has_line xs l || b) (has-with_line x ys l)
+    ∙ (or_swap (has_line xs l) (eqb x l) (has_line ys l) ∙ or_assoc (eqb x l) (has_line xs l) (has_line ys l)))
+
+pub Rising-union_of : (xs ys : List ℕ) → Rising 0 ys → Rising 0 (union_of xs ys)
+Rising-union_of [] ys h = h
+Rising-union_of (x ∷ xs) ys h = Rising-union_of xs (with_line x ys) (Rising-with_line 0 x ys (omega arith) h)
+
+first_same : (x y : ℕ) (xs ys : List ℕ) → x ≡ y → xs ≡ ys → x ∷ xs ≡ y ∷ ys
+first_same x y xs ys e f = cc
+
+rests : (x y : ℕ) (xs ys : List ℕ) → x ≡ y → Rising (x + 1) xs → Rising (y + 1) ys → ((l : ℕ) → has_line (x ∷ xs) l ≡ has_line (y ∷ ys) l) → (l : ℕ) → has_line xs l ≡ has_line ys l
+rests x y xs ys e h k same l =
+    elim (cases_lt x l) [
+      | inl lt ↦ (let w : has_line (x ∷ xs) l ≡ has_line (y ∷ ys) l = same l in rw (ne_eqb x l (λ e. omega (arith, e)), ne_eqb y l (λ f. omega (arith, f))) at w)
+      | inr ge ↦ has-below (x + 1) xs l h (omega arith) ∙ sym (has-below (y + 1) ys l k (omega arith))
+    ]
+
+-- rising lists that hold the same numbers are one
+pub same_numbers : (low : ℕ) (xs ys : List ℕ) → Rising low xs → Rising low ys → ((l : ℕ) → has_line xs l ≡ has_line ys l) → xs ≡ ys
+same_numbers low [] [] h k same = refl
+same_numbers low [] (y ∷ ys) h k same = absurd (false≢true (same y ∙ rw (eq-eqb y y refl) refl))
+same_numbers low (x ∷ xs) [] h k same = absurd (false≢true (sym (same x) ∙ rw (eq-eqb x x refl) refl))
+same_numbers low (x ∷ xs) (y ∷ ys) h k same =
+    elim (cases_order x y) [
+      | inl e ↦ first_same x y xs ys e (same_numbers (x + 1) xs ys h.1 (subst (λ (n : ℕ). Rising (n + 1) ys) (sym e) k.1) (rests x y xs ys e h.1 k.1 same))
+      | inr differ ↦ elim differ [
+        | inl lt ↦ absurd (false≢true (sym (same x ∙ has-below y (y ∷ ys) x (omega arith, k.1) lt) ∙ rw (eq-eqb x x refl) refl))
+        | inr gt ↦ absurd (false≢true (sym (has-below x (x ∷ xs) y (omega arith, h.1) gt) ∙ (same y ∙ rw (eq-eqb y y refl) refl)))
+      ]
+    ]

@@ -3,6 +3,8 @@
 
 mod line_set;
 mod mark;
+mod merging;
+mod spans;
 mod splicing;
 mod walking;
 

@@ -1,10 +1,11 @@
 //! Sets of line numbers.
-ghost use Rattle.std.specs.Prelude.{◌≡◌, ◌-◌, ◌<◌, ◌≤◌, ℕ, [], ◌+◌, ◌↔◌, length, slice_index_or, IfOk, OnOk, IsTrue};
-ghost use Rattle.cb_lines.specs.declared.line_set.Span.{Span};
-ghost use Rattle.cb_lines.specs.Lines.{with_line, has_line, span_lines, AreMaximal};
+ghost use Rattle.std.specs.Prelude.{◌≡◌, ◌||◌, ℕ, [], length, IfOk, OnOk};
+ghost use Rattle.cb_lines.specs.Lines.{with_line, has_line, union_of, span_lines, AreMaximal};
 ghost use Rattle.std.specs.List.{flat_map};
 ghost use Rattle.std.specs.List.Sorted.{IsStrictlyIncreasing};
 
+use crate::merging::merged;
+use crate::spans::{add_line, begins_by, count_before, count_lines};
 use cb_paths::NoMemory;
 use std::alloc::Global;
 use std::marker::Model;
@@ -16,98 +17,6 @@ pub struct Span {
     pub first: u32,
     /// The greatest line of the run.
     pub last: u32,
-}
-
-/// How many of rising spans end before a line.
-fn count_before(spans: &[Span], line: u32) -> usize
-    requires { AreMaximal spans.now }
-    ensures within { result ≤ length spans.now }
-    ensures before { (k : ℕ) (d : Span) → k < result → (slice_index_or spans.now k d).last < line }
-    ensures behind { (k : ℕ) (d : Span) → result ≤ k → k < length spans.now → line ≤ (slice_index_or spans.now k d).last }
-{
-    let count = spans.len();
-    if count > 0 && spans[count - 1].last < line {
-        return count;
-    }
-    if count > 0 && spans[count - 1].first <= line {
-        return count - 1;
-    }
-    spans.partition_point(|span| span.last < line)
-}
-
-/// Whether a span at a place begins no later than a line.
-fn begins_by(spans: &[Span], at: usize, line: u32) -> bool
-    ensures { IsTrue result ↔ ((at < length spans.now) × (slice_index_or spans.now at (record { first = 0; last = 0 })).first ≤ line) }
-{
-    at < spans.len() && spans[at].first <= line
-}
-
-/// Whether the span at a place begins directly behind a line.
-fn begins_directly_behind(spans: &[Span], at: usize, line: u32) -> bool
-    ensures { IsTrue result ↔ ((at < length spans.now) × (slice_index_or spans.now at (record { first = 0; last = 0 })).first ≡ line + 1) }
-{
-    at < spans.len() && line < spans[at].first && spans[at].first - line == 1
-}
-
-/// Whether the span before a place ends directly before a line.
-fn ends_directly_before(spans: &[Span], at: usize, line: u32) -> bool
-    requires { at ≤ length spans.now }
-    ensures { IsTrue result ↔ ((0 < at) × line ≡ (slice_index_or spans.now (at - 1) (record { first = 0; last = 0 })).last + 1) }
-{
-    at > 0 && spans[at - 1].last < line && line - spans[at - 1].last == 1
-}
-
-/// Adds a line to maximal spans.
-fn add_line(spans: &mut Vec<Span>, line: u32) -> Result<(), NoMemory>
-    requires { AreMaximal spans.old.items }
-    ensures maximal { AreMaximal spans.new.items }
-    ensures numbers { OnOk result (flat_map span_lines spans.new.items ≡ with_line line (flat_map span_lines spans.old.items)) }
-{
-    let held = spans.as_slice();
-    let at = count_before(held, line);
-    if begins_by(held, at, line) {
-        return Ok(());
-    }
-    let joins_front = ends_directly_before(held, at, line);
-    let joins_back = begins_directly_behind(held, at, line);
-    match (joins_front, joins_back) {
-        (true, true) => {
-            spans[at - 1].last = spans[at].last;
-            let _ = spans.remove(at);
-            Ok(())
-        }
-        (true, false) => {
-            spans[at - 1].last = line;
-            Ok(())
-        }
-        (false, true) => {
-            spans[at].first = line;
-            Ok(())
-        }
-        (false, false) => {
-            spans.insert(
-                at,
-                Span {
-                    first: line,
-                    last: line,
-                },
-            )?;
-            Ok(())
-        }
-    }
-}
-
-/// How many lines maximal spans hold.
-fn count_lines(spans: &[Span]) -> u64
-    requires { AreMaximal spans.now }
-    ensures { result ≡ length (flat_map span_lines spans.now) }
-{
-    let mut count = 0u64;
-    for span in spans {
-        let Span { first, last } = *span;
-        count += u64::from(last - first) + 1;
-    }
-    count
 }
 
 /// A set of line numbers, which contracts see as their rising list.
@@ -166,6 +75,15 @@ impl Lines {
         ensures { IfOk result (λ copy. copy ≡ self.now) }
     {
         let spans = Vec::from_slice(alloc, self.spans.as_slice())?;
+        Ok(Lines { spans })
+    }
+
+    /// The lines that this set or another one holds.
+    pub fn union(&self, alloc: Global, other: &Lines) -> Result<Lines, NoMemory>
+        ensures lines { IfOk result (λ union. union ≡ union_of self.now other.now) }
+        ensures members { IfOk result (λ union. (line : ℕ) → has_line union line ≡ (has_line self.now line || has_line other.now line)) }
+    {
+        let spans = merged(alloc, self.spans.as_slice(), other.spans.as_slice())?;
         Ok(Lines { spans })
     }
 

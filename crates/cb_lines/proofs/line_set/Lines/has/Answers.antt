@@ -1,7 +1,7 @@
 use Rattle.std.proofs.Common.{List, sym, ap, ◌∙◌, subst}
 use Rattle.cb_lines.specs.declared.line_set.Span.{Span}
 use Rattle.cb_lines.specs.Lines.{has_line, AreMaximal}
-use Rattle.cb_lines.proofs.Spans.{lines}
+use Rattle.cb_lines.proofs.SpanLists.{lines}
 use Rattle.cb_lines.proofs.Members.{has_at}
 use Rattle.cb_lines.proofs.line_set.Lines.has.Goals as goal
 

@@ -1,6 +1,6 @@
 use Rattle.std.proofs.Common.{subst}
 use Rattle.std.specs.List.Sorted.{IsStrictlyIncreasing}
-use Rattle.cb_lines.proofs.Spans.{lines, Fits-from_maximal}
+use Rattle.cb_lines.proofs.SpanLists.{lines, Fits-from_maximal}
 use Rattle.cb_lines.proofs.Members.{increasing_from_rising, Rising-lines}
 use Rattle.cb_lines.proofs.line_set.Lines.spans.Goals as goal
 

@@ -1,8 +1,8 @@
 use Rattle.std.proofs.Common.{rules, length, ◌-◌, ltb, ltb-true, ltb-false, arith}
 use Rattle.std.proofs.lemmas.List.Sorted.{IsPartitionPoint-from_clause, IsPartitionedBy-ltb}
 use Rattle.cb_lines.specs.declared.line_set.Span.{Span}
-use Rattle.cb_lines.proofs.Spans.{all_before, all_before_first, lasts_rise}
-use Rattle.cb_lines.proofs.line_set.count_before.Goals as goal
+use Rattle.cb_lines.proofs.SpanLists.{all_before, all_before_first, lasts_rise}
+use Rattle.cb_lines.proofs.spans.count_before.Goals as goal
 
 abbrev none : Span
 none = record { first = 0; last = 0 }

@@ -1,6 +1,6 @@
 use Rattle.std.proofs.Common.{◌≡◌, ◌+◌, ◌^◌, ◌≤◌, take, length}
-use Rattle.cb_lines.proofs.Spans.{lines, bound}
-use Rattle.cb_lines.proofs.line_set.count_lines.Given as goal
+use Rattle.cb_lines.proofs.SpanLists.{lines, bound}
+use Rattle.cb_lines.proofs.spans.count_lines.Given as goal
 
 abbrev pub invariant-loop-span : goal.invariant-loop-span
 invariant-loop-span l = record {

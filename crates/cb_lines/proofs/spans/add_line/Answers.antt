@@ -4,8 +4,8 @@ use Rattle.std.proofs.lemmas.Bool.{false≢true}
 use Rattle.cb_lines.specs.declared.line_set.Span.{Span}
 use Rattle.cb_lines.specs.Lines.{with_line, span_lines, AreMaximal}
 use Rattle.cb_lines.proofs.Adding.{Added, none, place_of, added_alone, added_front, added_back, added_joined, already}
-use Rattle.cb_lines.proofs.line_set.add_line.Goals as goal
-use Rattle.cb_lines.proofs.line_set.add_line.Goals.{After-remove, After-spans-in-true-false-1, After-spans-in-false-true-1, In_ok-insert-in-false-false}
+use Rattle.cb_lines.proofs.spans.add_line.Goals as goal
+use Rattle.cb_lines.proofs.spans.add_line.Goals.{After-remove, After-spans-in-true-false-1, After-spans-in-false-true-1, In_ok-insert-in-false-false}
 
 -- the three tests, and what they say of the spans that the vector holds
 abbrev Begins : ℕ → ℕ → List Span → Type 0

@@ -1,9 +1,9 @@
 use Rattle.std.proofs.Common.{◌<◌, ◌^◌, List, get_or, take, arith}
 use Rattle.cb_lines.specs.declared.line_set.Span.{Span}
 use Rattle.cb_lines.proofs.Adding.{none}
-use Rattle.cb_lines.proofs.Spans.{bound-take, ends_behind, Fits-from_maximal, Fits-take}
+use Rattle.cb_lines.proofs.SpanLists.{bound-take, ends_behind, Fits-from_maximal, Fits-take}
 use Rattle.cb_lines.proofs.Members.{length-lines_more, length-lines-le}
-use Rattle.cb_lines.proofs.line_set.count_lines.Goals as goal
+use Rattle.cb_lines.proofs.spans.count_lines.Goals as goal
 
 pub overflow_sub-last : goal.overflow_sub-last
 overflow_sub-last c = ends_behind 0 c.args.spans.now (Fits-from_maximal c.args.spans.now c.requires) c.loop-span.span-index none c.loop-span-test.true

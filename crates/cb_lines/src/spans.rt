@@ -1,0 +1,100 @@
+//! Maximal runs of consecutive lines, rising.
+ghost use Rattle.std.specs.Prelude.{◌≡◌, ◌+◌, ◌-◌, ◌<◌, ◌≤◌, ◌↔◌, ℕ, length, slice_index_or, OnOk, IsTrue};
+ghost use Rattle.cb_lines.specs.declared.line_set.Span.{Span};
+ghost use Rattle.cb_lines.specs.Lines.{with_line, span_lines, AreMaximal};
+ghost use Rattle.std.specs.List.{flat_map};
+
+use crate::line_set::Span;
+use cb_paths::NoMemory;
+
+/// How many of rising spans end before a line.
+pub(crate) fn count_before(spans: &[Span], line: u32) -> usize
+    requires { AreMaximal spans.now }
+    ensures within { result ≤ length spans.now }
+    ensures before { (k : ℕ) (d : Span) → k < result → (slice_index_or spans.now k d).last < line }
+    ensures behind { (k : ℕ) (d : Span) → result ≤ k → k < length spans.now → line ≤ (slice_index_or spans.now k d).last }
+{
+    let count = spans.len();
+    if count > 0 && spans[count - 1].last < line {
+        return count;
+    }
+    if count > 0 && spans[count - 1].first <= line {
+        return count - 1;
+    }
+    spans.partition_point(|span| span.last < line)
+}
+
+/// Whether a span at a place begins no later than a line.
+pub(crate) fn begins_by(spans: &[Span], at: usize, line: u32) -> bool
+    ensures { IsTrue result ↔ ((at < length spans.now) × (slice_index_or spans.now at (record { first = 0; last = 0 })).first ≤ line) }
+{
+    at < spans.len() && spans[at].first <= line
+}
+
+/// Whether the span at a place begins directly behind a line.
+fn begins_directly_behind(spans: &[Span], at: usize, line: u32) -> bool
+    ensures { IsTrue result ↔ ((at < length spans.now) × (slice_index_or spans.now at (record { first = 0; last = 0 })).first ≡ line + 1) }
+{
+    at < spans.len() && line < spans[at].first && spans[at].first - line == 1
+}
+
+/// Whether the span before a place ends directly before a line.
+fn ends_directly_before(spans: &[Span], at: usize, line: u32) -> bool
+    requires { at ≤ length spans.now }
+    ensures { IsTrue result ↔ ((0 < at) × line ≡ (slice_index_or spans.now (at - 1) (record { first = 0; last = 0 })).last + 1) }
+{
+    at > 0 && spans[at - 1].last < line && line - spans[at - 1].last == 1
+}
+
+/// Adds a line to maximal spans.
+pub(crate) fn add_line(spans: &mut Vec<Span>, line: u32) -> Result<(), NoMemory>
+    requires { AreMaximal spans.old.items }
+    ensures maximal { AreMaximal spans.new.items }
+    ensures numbers { OnOk result (flat_map span_lines spans.new.items ≡ with_line line (flat_map span_lines spans.old.items)) }
+{
+    let held = spans.as_slice();
+    let at = count_before(held, line);
+    if begins_by(held, at, line) {
+        return Ok(());
+    }
+    let joins_front = ends_directly_before(held, at, line);
+    let joins_back = begins_directly_behind(held, at, line);
+    match (joins_front, joins_back) {
+        (true, true) => {
+            spans[at - 1].last = spans[at].last;
+            let _ = spans.remove(at);
+            Ok(())
+        }
+        (true, false) => {
+            spans[at - 1].last = line;
+            Ok(())
+        }
+        (false, true) => {
+            spans[at].first = line;
+            Ok(())
+        }
+        (false, false) => {
+            spans.insert(
+                at,
+                Span {
+                    first: line,
+                    last: line,
+                },
+            )?;
+            Ok(())
+        }
+    }
+}
+
+/// How many lines maximal spans hold.
+pub(crate) fn count_lines(spans: &[Span]) -> u64
+    requires { AreMaximal spans.now }
+    ensures { result ≡ length (flat_map span_lines spans.now) }
+{
+    let mut count = 0u64;
+    for span in spans {
+        let Span { first, last } = *span;
+        count += u64::from(last - first) + 1;
+    }
+    count
+}
