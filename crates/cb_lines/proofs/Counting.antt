@@ -1,6 +1,6 @@
--- One mark more whose line is added to a set.
-use Rattle.std.proofs.Common.{◌≡◌, ◌+◌, ◌<◌, ℕ, List, [], ◌∷◌, ◌++◌, length, get_or, take, refl, ap, ◌∙◌}
-use Rattle.std.proofs.lemmas.List.{take_more}
+-- Marks more whose lines are added to a set.
+use Rattle.std.proofs.Common.{◌≡◌, ◌+◌, ◌-◌, ◌<◌, ◌≤◌, ℕ, List, [], ◌∷◌, ◌++◌, length, get_or, take, drop, refl, sym, ap, ◌∙◌, suc, zero, arith}
+use Rattle.std.proofs.lemmas.List.{take_more, drop-drop}
 use Rattle.cb_lines.specs.declared.mark.Mark.{Mark}
 use Rattle.cb_lines.specs.Lines.{with_line, with_lines}
 
@@ -11,3 +11,30 @@ with_lines-append (x ∷ xs) ys set = with_lines-append xs ys (with_line x.line 
 pub with_lines_more : (ms : List Mark) (i : ℕ) (d : Mark) (set : List ℕ) → i < length ms → with_lines (take (i + 1) ms) set ≡ with_line (get_or ms i d).line (with_lines (take i ms) set)
 with_lines_more ms i d set h =
     ap (λ (ms : List Mark). with_lines ms set) (take_more ms i d h) ∙ with_lines-append (take i ms) (get_or ms i d ∷ []) set
+
+take_none : {X : Type 0} (k : ℕ) → take {A = X} k [] ≡ []
+take_none zero = refl
+take_none (suc k) = refl
+
+take-add : {X : Type 0} (n k : ℕ) (xs : List X) → take (n + k) xs ≡ take n xs ++ take k (drop n xs)
+take-add zero k xs = (let e : 0 + k ≡ k = omega arith in ap (λ (n : ℕ). take n xs) e)
+take-add {X} (suc n) k [] = (let e : suc n + k ≡ suc (n + k) = omega arith in ap (λ (m : ℕ). take {A = X} m []) e ∙ sym (take_none k))
+take-add (suc n) k (x ∷ xs) = (let e : suc n + k ≡ suc (n + k) = omega arith in ap (λ (m : ℕ). take m (x ∷ xs)) e ∙ ap (λ ys. x ∷ ys) (take-add n k xs))
+
+-- the marks of a row more, which add one line
+pub row_more : (count left row : ℕ) (all now : List Mark) (lines set set' : List ℕ) (line : ℕ) → left ≤ count → row ≤ left → now ≡ drop (count - left) all → lines ≡ with_lines (take (count - left) all) set → set' ≡ with_line line lines → with_lines (take row now) lines ≡ with_line line lines → set' ≡ with_lines (take (count - (left - row)) all) set
+row_more count left row all now lines set set' line within fits at held added one =
+    let e : count - (left - row) ≡ (count - left) + row = omega arith in
+    let passed : List Mark = take (count - left) all in
+    let more : with_lines (take (count - (left - row)) all) set ≡ with_lines (take row now) lines =
+    ap (λ (n : ℕ). with_lines (take n all) set) e
+    ∙ (ap (λ (ms : List Mark). with_lines ms set) (take-add (count - left) row all)
+    ∙ (with_lines-append passed (take row (drop (count - left) all)) set
+    ∙ (ap (λ (ls : List ℕ). with_lines (take row (drop (count - left) all)) ls) (sym held)
+    ∙ ap (λ (ms : List Mark). with_lines (take row ms) lines) (sym at)))) in
+    added ∙ (sym one ∙ sym more)
+
+pub drop_more_row : (count left row : ℕ) (all now : List Mark) → left ≤ count → row ≤ left → now ≡ drop (count - left) all → drop row now ≡ drop (count - (left - row)) all
+drop_more_row count left row all now within fits at =
+    let e : (count - left) + row ≡ count - (left - row) = omega arith in
+    ap (λ (ms : List Mark). drop row ms) at ∙ (drop-drop row (count - left) all ∙ ap (λ (n : ℕ). drop n all) e)

@@ -1,6 +1,8 @@
 pub mod Adding
 pub mod Counting
+pub mod Holding
 pub mod Joining
+pub mod Kept
 pub mod Members
 pub mod Merged
 pub mod Positions

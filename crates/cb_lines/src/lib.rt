@@ -4,11 +4,13 @@
 mod line_set;
 mod mark;
 mod merging;
+mod reading;
 mod spans;
 mod splicing;
 mod walking;
 
 pub use line_set::{Lines, Span};
 pub use mark::{Mark, Marks};
+pub use reading::Marker;
 pub use splicing::marks;
 pub use walking::Walk;

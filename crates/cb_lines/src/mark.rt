@@ -10,22 +10,23 @@ pub struct Mark {
     pub line: u32,
 }
 
-/// The marks of a source, which contracts see as the list of them.
+/// The marks of a source, which contracts see as the list of them. They are kept in a byte each, and a number for each splice.
 #[derive(Drop)]
 pub struct Marks {
-    pub(crate) items: Vec<Mark>,
     pub(crate) bytes: Vec<u8>,
+    /// For each splice the number of marks before it.
+    pub(crate) splices: Vec<usize>,
 }
 
 impl Model for Marks {
-    ghost use Rattle.std.specs.Prelude.{◌≡◌, List};
+    ghost use Rattle.std.specs.Prelude.{List};
     ghost use Rattle.cb_lines.specs.declared.mark.Mark.{Mark};
 
     ghost Value = { List Mark };
 
-    ghost use Rattle.cb_lines.specs.Marks.{bytes_of};
+    ghost use Rattle.cb_lines.specs.Held.{marks_held, Rises};
 
-    ghost view = { λ m. m.items.items };
+    ghost view = { λ m. marks_held 1 0 m.bytes.items m.splices.items };
 
-    ghost invariant = { λ m. m.bytes.items ≡ bytes_of m.items.items };
+    ghost invariant = { λ m. Rises 0 m.splices.items };
 }

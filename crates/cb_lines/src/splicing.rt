@@ -1,12 +1,15 @@
 //! From a source to its marks.
-ghost use Rattle.std.specs.Prelude.{◌≡◌, ◌<◌, ◌+◌, ◌-◌, ◌^◌, ◌++◌, min, if◌then◌else◌, length, IfOk, OnOk};
-ghost use Rattle.cb_lines.specs.Marks.{marks_of, byte_at, begins_line_end, is_line_return, is_splice, is_deleted, is_line_feed, line_at, mark_at};
+ghost use Rattle.std.specs.Prelude.{◌≡◌, ◌<◌, ◌≤◌, ◌+◌, ◌-◌, ◌^◌, ℕ, true, false, min, if◌then◌else◌, length, IfOk};
+ghost use Rattle.cb_lines.specs.Held.{is_special};
+ghost use Rattle.cb_lines.specs.Marks.{marks_of, byte_at, begins_line_end, is_line_return, is_splice, is_deleted, is_line_feed};
 
-use crate::mark::{Mark, Marks};
+use crate::mark::Marks;
 use cb_paths::NoMemory;
+use memchr::memchr2;
 use std::alloc::Global;
 
-const LINE_FEED: u8 = b'\n';
+/// The byte that ends a line.
+pub(crate) const LINE_FEED: u8 = b'\n';
 
 const CARRIAGE_RETURN: u8 = b'\r';
 
@@ -43,7 +46,7 @@ fn is_spliced_backslash(source: &[u8], at: usize) -> bool
 }
 
 /// Whether a position is taken away.
-fn is_taken_away(source: &[u8], at: usize) -> bool
+pub(crate) fn is_taken_away(source: &[u8], at: usize) -> bool
     requires { at < length source.now }
     ensures { result ≡ is_deleted source.now at }
 {
@@ -56,7 +59,7 @@ fn is_taken_away(source: &[u8], at: usize) -> bool
 }
 
 /// The line of the next byte, behind a byte of this line.
-fn line_behind(line: u32, byte: u8) -> u32
+pub(crate) fn line_behind(line: u32, byte: u8) -> u32
     ensures { result ≡ min (2 ^ 32 - 1) (line + (if is_line_feed byte then 1 else 0)) }
 {
     if byte == LINE_FEED {
@@ -66,30 +69,55 @@ fn line_behind(line: u32, byte: u8) -> u32
     }
 }
 
-/// Adds the mark at a position of this line, unless it is taken away.
-fn put(items: &mut Vec<Mark>, source: &[u8], at: usize, line: u32) -> Result<(), NoMemory>
-    requires within { at < length source.now }
-    requires line { line ≡ line_at source.now at }
-    ensures { OnOk result (items.new.items ≡ items.old.items ++ mark_at source.now at) }
+/// The first position from one on at which a CR or a backslash stands; the length where there is none.
+fn special_from(source: &[u8], from: usize) -> usize
+    requires { from ≤ length source.now }
+    ensures within { (from ≤ result) × (result ≤ length source.now) }
+    ensures plain { (k : ℕ) → from ≤ k → k < result → is_special (byte_at source.now k) ≡ false }
+    ensures special { result < length source.now → is_special (byte_at source.now result) ≡ true }
 {
-    if is_taken_away(source, at) {
-        return Ok(());
+    match memchr2(BACKSLASH, CARRIAGE_RETURN, &source[from..]) {
+        Some(count) => from + count,
+        None => source.len(),
     }
-    let byte = source[at];
-    items.push(Mark { byte, line })?;
-    Ok(())
+}
+
+/// The position behind the line end that begins at a position.
+fn behind_line_end(source: &[u8], at: usize) -> usize
+    requires { begins_line_end source.now at ≡ true }
+    ensures { result ≡ (if is_line_feed (byte_at source.now at) then at + 1 else at + 2) }
+{
+    if byte_of(source, at) == LINE_FEED {
+        at + 1
+    } else {
+        at + 2
+    }
 }
 
 /// The marks of a source.
 pub fn marks(alloc: Global, source: &[u8]) -> Result<Marks, NoMemory>
     ensures { IfOk result (λ m. m ≡ marks_of source.now) }
 {
-    let mut items = Vec::new(alloc);
-    let mut line = 1;
-    'positions: for at in 0..source.len() {
-        put(&mut items, source, at, line)?;
-        line = line_behind(line, source[at]);
+    let mut bytes = Vec::with_capacity(alloc, source.len())?;
+    let mut splices = Vec::new(alloc);
+    let mut at = 0;
+    'runs: while at < source.len() {
+        let end = special_from(source, at);
+        bytes.extend_from_slice(&source[at..end])?;
+        if end == source.len() {
+            return Ok(Marks { bytes, splices });
+        }
+        if is_return_of_line_end(source, end) {
+            at = end + 1;
+            continue;
+        }
+        if is_spliced_backslash(source, end) {
+            splices.push(bytes.len())?;
+            at = behind_line_end(source, end + 1);
+            continue;
+        }
+        bytes.push(source[end])?;
+        at = end + 1;
     }
-    let bytes = items.iter().map(|mark| mark.byte).collect(alloc)?;
-    Ok(Marks { items, bytes })
+    Ok(Marks { bytes, splices })
 }

@@ -1,31 +1,98 @@
 //! A walk over the marks of a source.
-ghost use Rattle.std.specs.Prelude.{◌≡◌, ◌<◌, ◌≤◌, length, take, drop, OnOk};
-ghost use Rattle.cb_lines.specs.Marks.{bytes_of, first_line};
-ghost use Rattle.cb_lines.specs.Lines.{with_lines};
+ghost use Rattle.std.specs.Prelude.{◌≡◌, ◌+◌, ◌-◌, ◌^◌, ◌<◌, ◌≤◌, ◌↔◌, ℕ, false, List, length, slice_index, take, drop, min, if◌then◌else◌, OnOk, IsTrue};
+ghost use Rattle.cb_lines.specs.Held.{marks_held, feeds, Rises};
+ghost use Rattle.cb_lines.specs.Marks.{bytes_of, first_line, is_line_feed};
+ghost use Rattle.cb_lines.specs.Lines.{with_line, with_lines};
 
 use crate::line_set::Lines;
-use crate::mark::{Mark, Marks};
+use crate::mark::Marks;
+use crate::splicing::{LINE_FEED, line_behind};
 use cb_paths::NoMemory;
 use std::marker::Model;
+
+/// The line behind bytes that begin on a line.
+fn line_behind_all(from: u32, bytes: &[u8]) -> u32
+    ensures { result ≡ min (2 ^ 32 - 1) (from + feeds bytes.now) }
+{
+    let mut line = from;
+    for byte in bytes {
+        line = line_behind(line, *byte);
+    }
+    line
+}
+
+/// Whether the splice at a place stands at a mark or before it.
+fn is_passed(splices: &[usize], place: usize, at: usize) -> bool
+    ensures { IsTrue result ↔ ((place < length splices.now) × slice_index splices.now place ≤ at) }
+{
+    place < splices.len() && splices[place] <= at
+}
+
+/// The splices behind the mark `at`, and the line of this mark, where it is given without these splices.
+fn past_splices(splices: &[usize], at: usize, from: u32) -> (&[usize], u32)
+    requires { Rises 0 splices.now }
+    ensures rises { Rises (at + 1) result.0.now }
+    ensures same { (bytes : List ℕ) → marks_held result.1 at bytes result.0.now ≡ marks_held from at bytes splices.now }
+{
+    let mut line = from;
+    let mut count = 0;
+    'splices: while is_passed(splices, count, at) {
+        count += 1;
+        line = line.saturating_add(1);
+    }
+    (&splices[count..], line)
+}
+
+/// How many marks from the mark `at` on, up to a number, stand before the next splice.
+fn marks_to_splice(splices: &[usize], at: usize, most: usize) -> usize
+    requires rises { Rises (at + 1) splices.now }
+    requires full { 0 < most }
+    ensures within { (0 < result) × (result ≤ most) }
+    ensures before { Rises (at + result) splices.now }
+{
+    if splices.is_empty() {
+        return most;
+    }
+    most.min(splices[0] - at)
+}
+
+/// How many bytes there are up to the first LF, this among them.
+fn bytes_to_feed(bytes: &[u8]) -> usize
+    requires { 0 < length bytes.now }
+    ensures within { (0 < result) × (result ≤ length bytes.now) }
+    ensures plain { (k : ℕ) → k + 1 < result → is_line_feed (slice_index bytes.now k) ≡ false }
+{
+    for (i, byte) in bytes.iter().enumerate() {
+        if *byte == LINE_FEED {
+            return i + 1;
+        }
+    }
+    bytes.len()
+}
 
 /// A walk over marks, which contracts see as the list of the marks that are left.
 #[derive(Drop)]
 pub struct Walk<'a> {
-    items: &'a [Mark],
     bytes: &'a [u8],
+    /// The splices behind the next mark.
+    splices: &'a [usize],
+    /// The number of the marks before the next one.
+    at: usize,
+    /// The line of the next mark.
+    line: u32,
 }
 
 impl<'a> Model for Walk<'a> {
-    ghost use Rattle.std.specs.Prelude.{◌≡◌, List};
+    ghost use Rattle.std.specs.Prelude.{List, length, ◌+◌, ◌^◌, ◌<◌};
     ghost use Rattle.cb_lines.specs.declared.mark.Mark.{Mark};
 
     ghost Value = { List Mark };
 
-    ghost use Rattle.cb_lines.specs.Marks.{bytes_of};
+    ghost use Rattle.cb_lines.specs.Held.{marks_held, Rises};
 
-    ghost view = { λ w. w.items.now };
+    ghost view = { λ w. marks_held w.line w.at w.bytes.now w.splices.now };
 
-    ghost invariant = { λ w. w.bytes.now ≡ bytes_of w.items.now };
+    ghost invariant = { λ w. Rises (w.at + 1) w.splices.now × (w.at + length w.bytes.now < 2 ^ 64) };
 }
 
 impl<'a> Walk<'a> {
@@ -33,9 +100,12 @@ impl<'a> Walk<'a> {
     pub fn new(marks: &'a Marks) -> Walk<'a>
         ensures { result ≡ marks.now }
     {
+        let (splices, line) = past_splices(marks.splices.as_slice(), 0, 1);
         Walk {
-            items: marks.items.as_slice(),
             bytes: marks.bytes.as_slice(),
+            splices,
+            at: 0,
+            line,
         }
     }
 
@@ -51,7 +121,7 @@ impl<'a> Walk<'a> {
         requires { 0 < length self.now }
         ensures { result ≡ first_line self.now }
     {
-        self.items[0].line
+        self.line
     }
 
     /// Goes past marks.
@@ -59,8 +129,13 @@ impl<'a> Walk<'a> {
         requires { count ≤ length self.old }
         ensures { self.new ≡ drop count self.old }
     {
-        self.items = &self.items[count..];
-        self.bytes = &self.bytes[count..];
+        let (passed, rest) = self.bytes.split_at(count);
+        let at = self.at + count;
+        let (splices, line) = past_splices(self.splices, at, line_behind_all(self.line, passed));
+        self.bytes = rest;
+        self.splices = splices;
+        self.at = at;
+        self.line = line;
     }
 
     /// Goes past marks and adds their lines to a set. After want of memory both may be used on, and no more is said of them.
@@ -69,10 +144,25 @@ impl<'a> Walk<'a> {
         ensures passed { OnOk result (self.new ≡ drop count self.old) }
         ensures counted { OnOk result (lines.new ≡ with_lines (take count self.old) lines.old) }
     {
-        for mark in &self.items[..count] {
-            lines.add(mark.line)?;
+        let mut left = count;
+        'rows: while left > 0 {
+            let row = self.row(left);
+            lines.add(self.line())?;
+            self.pass(row);
+            left -= row;
         }
-        self.pass(count);
         Ok(())
+    }
+
+    /// How many of the first marks that are left, up to a number, stand on the line of the first one.
+    fn row(&self, most: usize) -> usize
+        requires full { 0 < most }
+        requires within { most ≤ length self.now }
+        ensures within { (0 < result) × (result ≤ most) }
+        ensures one_line { (set : List ℕ) → with_lines (take result self.now) set ≡ with_line (first_line self.now) set }
+    {
+        let reach = marks_to_splice(self.splices, self.at, most);
+        let (ahead, _) = self.bytes.split_at(reach);
+        bytes_to_feed(ahead)
     }
 }

@@ -1,9 +1,12 @@
-use Rattle.std.proofs.Common.{◌≡◌, ◌++◌}
-use Rattle.cb_lines.specs.Marks.{line_at, marks_from, marks_of}
+use Rattle.std.proofs.Common.{◌-◌, ◌≤◌, length}
+use Rattle.cb_lines.proofs.Kept.{Kept}
 use Rattle.cb_lines.proofs.splicing.marks.Given as goal
 
-abbrev pub invariant-positions : goal.invariant-positions
-invariant-positions l = record {
-  marks : l.items.items ++ marks_from l.source l.at ≡ marks_of l.source;
-  line : l.line ≡ line_at l.source l.at;
+abbrev pub invariant-runs : goal.invariant-runs
+invariant-runs l = record {
+  within : l.at ≤ length l.source;
+  kept : Kept l.source l.at l.bytes.items l.splices.items;
 }
+
+abbrev pub decreases-runs : goal.decreases-runs
+decreases-runs l = length l.source - l.at

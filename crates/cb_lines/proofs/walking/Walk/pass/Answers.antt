@@ -1,16 +1,32 @@
-use Rattle.std.proofs.Common.{◌≡◌, ℕ, ◌-◌, List, length, take, drop, sym, ap, ◌∙◌, arith, length-drop}
-use Rattle.std.proofs.lemmas.List.{take_all, drop-map}
+use Rattle.std.proofs.Common.{◌≡◌, ◌+◌, ◌-◌, ◌^◌, ℕ, List, min, length, take, drop, ap, ◌∙◌, arith, length-drop}
 use Rattle.cb_lines.specs.declared.mark.Mark.{Mark}
-use Rattle.cb_lines.specs.Marks.{bytes_of}
+use Rattle.cb_lines.specs.Held.{feeds, marks_held}
+use Rattle.cb_lines.proofs.Holding.{held-length, held-behind, Rises-weaker}
 use Rattle.cb_lines.proofs.walking.Walk.pass.Goals as goal
 
--- what a slice from n on holds
-rest_is : {X : Type 0} (n : ℕ) (xs : List X) → take (length xs - n) (drop n xs) ≡ drop n xs
-rest_is n xs = take_all (length xs - n) (drop n xs) (omega (arith, length-drop n xs))
+pub split_at-requires : goal.split_at-requires
+split_at-requires c = omega (arith, held-length c.self.inside.line c.self.inside.at c.self.inside.bytes.now c.self.inside.splices.now, ap length c.self.view_is)
 
-moved : (n : ℕ) (bytes : List ℕ) (items : List Mark) → bytes ≡ bytes_of items → take (length bytes - n) (drop n bytes) ≡ bytes_of (take (length items - n) (drop n items))
-moved n bytes items e =
-    rest_is n bytes ∙ (ap (drop n) e ∙ (drop-map (λ (m : Mark). m.byte) n items ∙ ap bytes_of (sym (rest_is n items))))
+pub overflow_add-at : goal.overflow_add-at
+overflow_add-at c =
+    omega (arith, held-length c.self.inside.line c.self.inside.at c.self.inside.bytes.now c.self.inside.splices.now, ap length c.self.view_is, c.self.invariant.1)
+
+pub past_splices-line-requires : goal.past_splices-line-requires
+past_splices-line-requires c = Rises-weaker 0 (c.self.inside.at + 1) c.self.inside.splices.now (omega arith) c.self.invariant.0
 
 pub invariant_of-self : goal.invariant_of-self
-invariant_of-self c = moved c.args.count c.self.inside.bytes.now c.self.inside.items.now c.self.invariant
+invariant_of-self c =
+    (c.past_splices-line.ensures.rises, omega (arith, held-length c.self.inside.line c.self.inside.at c.self.inside.bytes.now c.self.inside.splices.now, ap length c.self.view_is, c.self.invariant.1, ap length c.split_at.ensures.back, length-drop c.args.count c.self.inside.bytes.now))
+
+pub returns : goal.returns
+returns c =
+    let bytes : List ℕ = c.self.inside.bytes.now in
+    let splices : List ℕ = c.self.inside.splices.now in
+    let at : ℕ = c.self.inside.at in
+    let count : ℕ = c.args.count in
+    let from : ℕ = c.line_behind_all.result in
+    let e : from ≡ min (2 ^ 32 - 1) (c.self.inside.line + feeds (take count bytes)) = c.line_behind_all.ensures ∙ ap (λ (bs : List ℕ). min (2 ^ 32 - 1) (c.self.inside.line + feeds bs)) c.split_at.ensures.front in
+    c.past_splices-line.ensures.same c.split_at.result.1.now
+    ∙ (ap (λ (bs : List ℕ). marks_held from (at + count) bs splices) c.split_at.ensures.back
+    ∙ (held-behind count c.self.inside.line at bytes splices from e
+    ∙ ap (λ (ms : List Mark). drop count ms) c.self.view_is))

@@ -1,9 +1,15 @@
-use Rattle.std.proofs.Common.{ℕ, List, get_or, take, sym, ap, ◌∙◌}
+use Rattle.std.proofs.Common.{◌≤◌, ℕ, sym, ap, ◌∙◌, arith}
 use Rattle.cb_lines.specs.Lines.{with_line}
-use Rattle.cb_lines.proofs.Counting.{with_lines_more}
+use Rattle.cb_lines.proofs.Counting.{row_more, drop_more_row}
 use Rattle.cb_lines.proofs.walking.Walk.pass_counted.Goals as goal
 
-pub loop-mark-preserved : goal.loop-mark-preserved
-loop-mark-preserved c =
-    c.in_ok-add.ensures ∙ (ap (λ (set : List ℕ). with_line (get_or (take c.args.count c.self.inside.items.now) c.loop-mark.mark-index (record { byte = 0; line = 0 })).line set) c.loop-mark.invariant
-    ∙ sym (with_lines_more (take c.args.count c.self.inside.items.now) c.loop-mark.mark-index (record { byte = 0; line = 0 }) c.args.lines.now c.loop-mark-test.true))
+pub rows-preserved : goal.rows-preserved
+rows-preserved c =
+    let inv = c.rows.invariant in
+    let row : ℕ = c.row-row.result in
+    let fits : row ≤ c.rows.left = c.row-row.ensures.within.1 in
+    record {
+      within = omega arith;
+      passed = c.pass.ensures ∙ drop_more_row c.args.count c.rows.left row c.args.self.now c.rows.self inv.within fits inv.passed;
+      counted = row_more c.args.count c.rows.left row c.args.self.now c.rows.self c.rows.lines c.args.lines.now c.add.new.self c.line.result inv.within fits inv.passed inv.counted c.in_ok-add.ensures (c.row-row.ensures.one_line c.rows.lines ∙ ap (λ (line : ℕ). with_line line c.rows.lines) (sym c.line.ensures));
+    }

@@ -1,6 +1,13 @@
-use Rattle.std.proofs.Common.{◌≡◌, take}
+use Rattle.std.proofs.Common.{◌≡◌, ◌-◌, ◌≤◌, take, drop}
 use Rattle.cb_lines.specs.Lines.{with_lines}
 use Rattle.cb_lines.proofs.walking.Walk.pass_counted.Given as goal
 
-abbrev pub invariant-loop-mark : goal.invariant-loop-mark
-invariant-loop-mark l = l.lines ≡ with_lines (take l.mark-index l.mark-items) l.initial.lines
+abbrev pub invariant-rows : goal.invariant-rows
+invariant-rows l = record {
+  within : l.left ≤ l.count;
+  passed : l.self ≡ drop (l.count - l.left) l.initial.self;
+  counted : l.lines ≡ with_lines (take (l.count - l.left) l.initial.self) l.initial.lines;
+}
+
+abbrev pub decreases-rows : goal.decreases-rows
+decreases-rows l = l.left
