@@ -96,3 +96,59 @@ impl Lines {
         self.spans.as_slice()
     }
 }
+
+#[cfg(test)]
+mod tests {
+    use super::*;
+    use std::test::Fail;
+
+    fn is_shared<T: Send + Sync>() {}
+
+    fn span(first: u32, last: u32) -> Span {
+        Span { first, last }
+    }
+
+    #[test]
+    fn added_lines_make_maximal_spans(rt: HostRuntime) -> Result<(), Fail> {
+        is_shared::<Lines>();
+        for (added, spans) in [
+            ([7, 7, 7], [span(7, 7)].as_slice()),
+            ([1, 3, 2], [span(1, 3)].as_slice()),
+            ([9, 2, 3], [span(2, 3), span(9, 9)].as_slice()),
+            ([5, 4, 8], [span(4, 5), span(8, 8)].as_slice()),
+            (
+                [u32::MAX, 0, u32::MAX - 1],
+                [span(0, 0), span(u32::MAX - 1, u32::MAX)].as_slice(),
+            ),
+        ] {
+            let mut lines = Lines::new(rt.alloc());
+            for line in added {
+                assert!(rt; !lines.has(line) || line == 7);
+                lines.add(line)?;
+                assert!(rt; lines.has(line));
+            }
+            assert_eq!(rt; lines.copy(rt.alloc())?.spans(), spans, "after {added:?}");
+        }
+        Ok(())
+    }
+
+    #[test]
+    fn unions_join_spans(rt: HostRuntime) -> Result<(), Fail> {
+        let mut odd = Lines::new(rt.alloc());
+        odd.add(1)?;
+        odd.add(3)?;
+        let mut even = Lines::new(rt.alloc());
+        even.add(2)?;
+        let all = odd.union(rt.alloc(), &even)?;
+        assert_eq!(rt; all.spans(), [span(1, 3)].as_slice());
+        assert_eq!(rt; all.count(), 3);
+        even.add(9)?;
+        even.add(5)?;
+        assert_eq!(rt;
+            even.union(rt.alloc(), &odd)?.spans(),
+            [span(1, 3), span(5, 5), span(9, 9)].as_slice()
+        );
+        assert_eq!(rt; Lines::new(rt.alloc()).union(rt.alloc(), &even)?.count(), 3);
+        Ok(())
+    }
+}

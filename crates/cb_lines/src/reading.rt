@@ -68,3 +68,61 @@ impl<'a> Marker<'a> {
         None
     }
 }
+
+#[cfg(test)]
+mod tests {
+    use super::*;
+    use crate::{Lines, Marks, Walk, marks};
+    use std::test::Fail;
+
+    fn is_shared<T: Send + Sync>() {}
+
+    #[test]
+    fn sources_have_their_marks(rt: HostRuntime) -> Result<(), Fail> {
+        is_shared::<Marks>();
+        for (source, bytes, lines) in [
+            (b"".as_slice(), b"".as_slice(), [].as_slice()),
+            (b"a\\\nb".as_slice(), b"ab".as_slice(), [1, 2].as_slice()),
+            (
+                b"a\r\nb\n".as_slice(),
+                b"a\nb\n".as_slice(),
+                [1, 1, 2, 2].as_slice(),
+            ),
+            (b"\\\r\n\\\ny".as_slice(), b"y".as_slice(), [3].as_slice()),
+            (
+                b"\\\r\r\nx".as_slice(),
+                b"\\\r\nx".as_slice(),
+                [1, 1, 1, 2].as_slice(),
+            ),
+            (b"\\\\\nx".as_slice(), b"\\x".as_slice(), [1, 2].as_slice()),
+            (
+                b"\n\\ \nx\\".as_slice(),
+                b"\n\\ \nx\\".as_slice(),
+                [1, 2, 2, 2, 3, 3].as_slice(),
+            ),
+        ] {
+            let mut marker = Marker::new(source);
+            let marks = marks(rt.alloc(), source)?;
+            let mut walk = Walk::new(&marks);
+            let mut counted = Lines::new(rt.alloc());
+            Walk::new(&marks).pass_counted(walk.rest().len(), &mut counted)?;
+            assert_eq!(rt; walk.rest(), bytes);
+            for (byte, line) in bytes.iter().zip(lines) {
+                assert_eq!(rt;
+                    marker.next(),
+                    Some(Mark {
+                        byte: *byte,
+                        line: *line
+                    })
+                );
+                assert!(rt; !walk.rest().is_empty());
+                assert_eq!(rt; walk.line(), *line, "of {byte} in {source:?}");
+                assert!(rt; counted.has(*line));
+                walk.pass(1);
+            }
+            assert_eq!(rt; marker.next(), None);
+            assert!(rt; walk.rest().is_empty());
+        }
+        Ok(())
+    }
+}
