@@ -1,24 +1,17 @@
-use Rattle.std.proofs.Common.{◌≡◌, ◌+◌, ◌-◌, ◌<◌, ◌≤◌, length, set, refl, sym, subst, inl, inr, arith}
+use Rattle.std.proofs.Common.{◌≡◌, ◌+◌, ◌-◌, ◌<◌, ◌≤◌, length, refl, sym, subst, inl, inr, arith}
 use Rattle.std.proofs.lemmas.Bool.{false≢true, cases_lt}
 use Rattle.cb_lines.proofs.SpanLists.{bound}
 use Rattle.cb_lines.proofs.Joining.{Joins, joins_pushed, joins_read, bound_empty, bound_read}
 use Rattle.cb_lines.proofs.merging.join.Goals as goal
-use Rattle.cb_lines.proofs.merging.join.Goals.{After-spans-1, In_ok-push, else-count-gt0-via-then-count-gt0+else-meets, else-count-gt0-via-else-count-gt0}
+use Rattle.cb_lines.proofs.merging.join.Goals.{In_ok-push, else-count-gt0-via-then-count-gt0+else-meets, else-count-gt0-via-else-count-gt0}
 
-joined : (c : After-spans-1) → Joins c.args.next c.args.spans.now.items (set c.args.spans.now.items (c.len-count.result - 1) (record { first = c.index_mut.result.now.first; last = c.max.result }))
-joined c =
+pub returns-then-meets : goal.returns-then-meets
+returns-then-meets c =
     let len : length c.args.spans.now.items ≡ (c.len-count.result - 1) + 1 = omega (arith, c.args.spans.now.ok) in
+    let made =
     joins_read c.args.next c.args.spans.now.items (c.len-count.result - 1) c.max.result len c.requires.maximal c.requires.rising c.requires.full c.index.result.now c.index-then-meets.result.now c.index_mut.result.now
-    c.index.ensures c.index-then-meets.ensures c.index_mut.ensures.value (c.if-meets.ensures.0 refl) c.max.ensures
-
-pub returns-then-meets-clause-maximal : goal.returns-then-meets-clause-maximal
-returns-then-meets-clause-maximal c = (joined c).maximal
-
-pub returns-then-meets-clause-rising : goal.returns-then-meets-clause-rising
-returns-then-meets-clause-rising c = (joined c).rising
-
-pub returns-then-meets-clause-members : goal.returns-then-meets-clause-members
-returns-then-meets-clause-members c = (joined c).members
+    c.index.ensures c.index-then-meets.ensures c.index_mut.ensures.value (c.if-meets.ensures.0 refl) c.max.ensures in
+    record { maximal = made.maximal; rising = made.rising; members = made.members }
 
 low : (c : In_ok-push) → bound 0 c.args.spans.now.items ≤ c.args.next.first
 low c =
@@ -34,14 +27,9 @@ low c =
           )
     ]
 
-pushed : (c : In_ok-push) → Joins c.args.next c.args.spans.now.items c.push.new.self.items
-pushed c = subst (Joins c.args.next c.args.spans.now.items) (sym c.in_ok-push.ensures.items) (joins_pushed c.args.next c.args.spans.now.items c.requires.maximal c.requires.full (low c))
-
-pub returns-clause-maximal : goal.returns-clause-maximal
-returns-clause-maximal c = (pushed c).maximal
-
-pub returns-clause-rising : goal.returns-clause-rising
-returns-clause-rising c = (pushed c).rising
-
-pub returns-clause-members : goal.returns-clause-members
-returns-clause-members c = (pushed c).members
+pub returns : goal.returns
+returns c =
+    let made =
+    subst (Joins c.args.next c.args.spans.now.items) (sym c.in_ok-push.ensures.items)
+    (joins_pushed c.args.next c.args.spans.now.items c.requires.maximal c.requires.full (low c)) in
+    record { maximal = made.maximal; rising = made.rising; members = made.members }

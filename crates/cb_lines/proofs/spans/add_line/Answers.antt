@@ -1,11 +1,10 @@
-use Rattle.std.proofs.Common.{◌≡◌, ℕ, ◌+◌, ◌-◌, ◌<◌, ◌≤◌, true, false, IsTrue, ◌↔◌, List, length, get_or, set, refl, sym, subst, arith}
+use Rattle.std.proofs.Common.{◌≡◌, ℕ, ◌+◌, ◌-◌, ◌<◌, ◌≤◌, true, false, IsTrue, ◌↔◌, List, length, get_or, refl, sym, subst, arith}
 use Rattle.std.specs.List.{flat_map}
 use Rattle.std.proofs.lemmas.Bool.{false≢true}
 use Rattle.cb_lines.specs.declared.line_set.Span.{Span}
 use Rattle.cb_lines.specs.Lines.{with_line, span_lines, AreMaximal}
 use Rattle.cb_lines.proofs.Adding.{Added, none, place_of, added_alone, added_front, added_back, added_joined, already}
 use Rattle.cb_lines.proofs.spans.add_line.Goals as goal
-use Rattle.cb_lines.proofs.spans.add_line.Goals.{After-remove, After-spans-in-true-false-1, After-spans-in-false-true-1, In_ok-insert-in-false-false}
 
 -- the three tests, and what they say of the spans that the vector holds
 abbrev Begins : ℕ → ℕ → List Span → Type 0
@@ -32,8 +31,8 @@ returns-then-begins_by-clause-numbers c =
     subst (λ (ss : List Span). flat_map span_lines ss ≡ with_line c.args.line (flat_map span_lines ss)) e
     (already c.args.line held p (subst AreMaximal (sym e) c.requires) is.0 is.1 (c.count_before-at.ensures.behind p none (omega arith) is.0))
 
-in-true-true : (c : After-remove) → Added c.args.line c.args.spans.now.items c.remove.new.self.items
-in-true-true c =
+pub returns-in-true-true : goal.returns-in-true-true
+returns-in-true-true c =
     let e = c.as_slice-held.ensures.value in
     let line : ℕ = c.args.line in
     let held : List Span = c.as_slice-held.result.now in
@@ -42,17 +41,12 @@ in-true-true c =
     let place = place_of line held ss p c.requires e c.count_before-at.ensures.within c.count_before-at.ensures.before (λ h. false≢true (c.if-begins_by.ensures.1 h)) in
     let front = passes (Front line p) held ss e c.in-true-true.ensures in
     let back = passes (Back line p) held ss e c.in-true-true.ensures' in
-    subst (λ (new : List Span). Added line ss new) (sym c.remove.ensures.items)
-    (added_joined line ss p place front.0 front.1 back.0 back.1 c.index_mut.result.now c.index.result.now c.index_mut.ensures.value c.index.ensures)
+    let made = subst (λ (new : List Span). Added line ss new) (sym c.remove.ensures.items)
+    (added_joined line ss p place front.0 front.1 back.0 back.1 c.index_mut.result.now c.index.result.now c.index_mut.ensures.value c.index.ensures) in
+    record { maximal = made.maximal; numbers = made.numbers }
 
-pub returns-in-true-true-clause-maximal : goal.returns-in-true-true-clause-maximal
-returns-in-true-true-clause-maximal c = (in-true-true c).maximal
-
-pub returns-in-true-true-clause-numbers : goal.returns-in-true-true-clause-numbers
-returns-in-true-true-clause-numbers c = (in-true-true c).numbers
-
-in-true-false : (c : After-spans-in-true-false-1) → Added c.args.line c.args.spans.now.items (set c.args.spans.now.items (c.count_before-at.result - 1) (record { first = c.index_mut-in-true-false.result.now.first; last = c.args.line }))
-in-true-false c =
+pub returns-in-true-false : goal.returns-in-true-false
+returns-in-true-false c =
     let e = c.as_slice-held.ensures.value in
     let line : ℕ = c.args.line in
     let held : List Span = c.as_slice-held.result.now in
@@ -60,16 +54,11 @@ in-true-false c =
     let p : ℕ = c.count_before-at.result in
     let place = place_of line held ss p c.requires e c.count_before-at.ensures.within c.count_before-at.ensures.before (λ h. false≢true (c.if-begins_by.ensures.1 h)) in
     let front = passes (Front line p) held ss e c.in-true-false.ensures in
-    added_back line ss p place front.0 front.1 (fails (Back line p) held ss e c.in-true-false.ensures') c.index_mut-in-true-false.result.now c.index_mut-in-true-false.ensures.value
+    let made = added_back line ss p place front.0 front.1 (fails (Back line p) held ss e c.in-true-false.ensures') c.index_mut-in-true-false.result.now c.index_mut-in-true-false.ensures.value in
+    record { maximal = made.maximal; numbers = made.numbers }
 
-pub returns-in-true-false-clause-maximal : goal.returns-in-true-false-clause-maximal
-returns-in-true-false-clause-maximal c = (in-true-false c).maximal
-
-pub returns-in-true-false-clause-numbers : goal.returns-in-true-false-clause-numbers
-returns-in-true-false-clause-numbers c = (in-true-false c).numbers
-
-in-false-true : (c : After-spans-in-false-true-1) → Added c.args.line c.args.spans.now.items (set c.args.spans.now.items c.count_before-at.result (record { first = c.args.line; last = c.index_mut-in-false-true.result.now.last }))
-in-false-true c =
+pub returns-in-false-true : goal.returns-in-false-true
+returns-in-false-true c =
     let e = c.as_slice-held.ensures.value in
     let line : ℕ = c.args.line in
     let held : List Span = c.as_slice-held.result.now in
@@ -77,27 +66,17 @@ in-false-true c =
     let p : ℕ = c.count_before-at.result in
     let place = place_of line held ss p c.requires e c.count_before-at.ensures.within c.count_before-at.ensures.before (λ h. false≢true (c.if-begins_by.ensures.1 h)) in
     let back = passes (Back line p) held ss e c.in-false-true.ensures' in
-    added_front line ss p place (fails (Front line p) held ss e c.in-false-true.ensures) back.0 back.1 c.index_mut-in-false-true.result.now c.index_mut-in-false-true.ensures.value
+    let made = added_front line ss p place (fails (Front line p) held ss e c.in-false-true.ensures) back.0 back.1 c.index_mut-in-false-true.result.now c.index_mut-in-false-true.ensures.value in
+    record { maximal = made.maximal; numbers = made.numbers }
 
-pub returns-in-false-true-clause-maximal : goal.returns-in-false-true-clause-maximal
-returns-in-false-true-clause-maximal c = (in-false-true c).maximal
-
-pub returns-in-false-true-clause-numbers : goal.returns-in-false-true-clause-numbers
-returns-in-false-true-clause-numbers c = (in-false-true c).numbers
-
-in-false-false : (c : In_ok-insert-in-false-false) → Added c.args.line c.args.spans.now.items c.insert.new.self.items
-in-false-false c =
+pub returns-in_ok-insert-in-false-false : goal.returns-in_ok-insert-in-false-false
+returns-in_ok-insert-in-false-false c =
     let e = c.as_slice-held.ensures.value in
     let line : ℕ = c.args.line in
     let held : List Span = c.as_slice-held.result.now in
     let ss : List Span = c.args.spans.now.items in
     let p : ℕ = c.count_before-at.result in
     let place = place_of line held ss p c.requires e c.count_before-at.ensures.within c.count_before-at.ensures.before (λ h. false≢true (c.if-begins_by.ensures.1 h)) in
-    subst (λ (new : List Span). Added line ss new) (sym c.in_ok-insert-in-false-false.ensures.items)
-    (added_alone line ss p place (fails (Front line p) held ss e c.in-false-false.ensures) (fails (Back line p) held ss e c.in-false-false.ensures'))
-
-pub returns-in_ok-insert-in-false-false-clause-maximal : goal.returns-in_ok-insert-in-false-false-clause-maximal
-returns-in_ok-insert-in-false-false-clause-maximal c = (in-false-false c).maximal
-
-pub returns-in_ok-insert-in-false-false-clause-numbers : goal.returns-in_ok-insert-in-false-false-clause-numbers
-returns-in_ok-insert-in-false-false-clause-numbers c = (in-false-false c).numbers
+    let made = subst (λ (new : List Span). Added line ss new) (sym c.in_ok-insert-in-false-false.ensures.items)
+    (added_alone line ss p place (fails (Front line p) held ss e c.in-false-false.ensures) (fails (Back line p) held ss e c.in-false-false.ensures')) in
+    record { maximal = made.maximal; numbers = made.numbers }
