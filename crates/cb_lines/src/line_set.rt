@@ -48,14 +48,15 @@ impl Lines {
         }
     }
 
-    /// Adds a line, which the set may hold already. After want of memory the set may be used on, and no more is said of it.
+    /// Adds a line, which the set may hold already; a line behind all others takes no search. Its one error is want of memory,
+    /// after which the set may be used on, and no more is said of it.
     pub fn add(&mut self, line: u32) -> Result<(), NoMemory>
         ensures { OnOk result (self.new ≡ with_line line self.old) }
     {
         add_line(&mut self.spans, line)
     }
 
-    /// Whether the set holds a line.
+    /// Whether the set holds a line. The search is binary.
     pub fn has(&self, line: u32) -> bool
         ensures { result ≡ has_line self.now line }
     {
@@ -70,7 +71,7 @@ impl Lines {
         count_lines(self.spans.as_slice())
     }
 
-    /// A second set of the same lines.
+    /// A second set of the same lines. Its one error is want of memory.
     pub fn copy(&self, alloc: Global) -> Result<Lines, NoMemory>
         ensures { IfOk result (λ copy. copy ≡ self.now) }
     {
@@ -78,7 +79,7 @@ impl Lines {
         Ok(Lines { spans })
     }
 
-    /// The lines that this set or another one holds.
+    /// The lines that this set or another one holds, in time linear in their spans. Its one error is want of memory.
     pub fn union(&self, alloc: Global, other: &Lines) -> Result<Lines, NoMemory>
         ensures lines { IfOk result (λ union. union ≡ union_of self.now other.now) }
         ensures members { IfOk result (λ union. (line : ℕ) → has_line union line ≡ (has_line self.now line || has_line other.now line)) }

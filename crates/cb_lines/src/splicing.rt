@@ -94,7 +94,8 @@ fn behind_line_end(source: &[u8], at: usize) -> usize
     }
 }
 
-/// The marks of a source.
+/// The marks of a source: its bytes without splices and without the CR of each line end, with their lines. Its one error is want
+/// of memory.
 pub fn marks(alloc: Global, source: &[u8]) -> Result<Marks, NoMemory>
     ensures { IfOk result (λ m. m ≡ marks_of source.now) }
 {

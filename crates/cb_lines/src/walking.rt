@@ -10,66 +10,6 @@ use crate::splicing::{LINE_FEED, line_behind};
 use cb_paths::NoMemory;
 use std::marker::Model;
 
-/// The line behind bytes that begin on a line.
-fn line_behind_all(from: u32, bytes: &[u8]) -> u32
-    ensures { result ≡ min (2 ^ 32 - 1) (from + feeds bytes.now) }
-{
-    let mut line = from;
-    for byte in bytes {
-        line = line_behind(line, *byte);
-    }
-    line
-}
-
-/// Whether the splice at a place stands at a mark or before it.
-fn is_passed(splices: &[usize], place: usize, at: usize) -> bool
-    ensures { IsTrue result ↔ ((place < length splices.now) × slice_index splices.now place ≤ at) }
-{
-    place < splices.len() && splices[place] <= at
-}
-
-/// The splices behind the mark `at`, and the line of this mark, where it is given without these splices.
-fn past_splices(splices: &[usize], at: usize, from: u32) -> (&[usize], u32)
-    requires { Rises 0 splices.now }
-    ensures rises { Rises (at + 1) result.0.now }
-    ensures same { (bytes : List ℕ) → marks_held result.1 at bytes result.0.now ≡ marks_held from at bytes splices.now }
-{
-    let mut line = from;
-    let mut count = 0;
-    'splices: while is_passed(splices, count, at) {
-        count += 1;
-        line = line.saturating_add(1);
-    }
-    (&splices[count..], line)
-}
-
-/// How many marks from the mark `at` on, up to a number, stand before the next splice.
-fn marks_to_splice(splices: &[usize], at: usize, most: usize) -> usize
-    requires rises { Rises (at + 1) splices.now }
-    requires full { 0 < most }
-    ensures within { (0 < result) × (result ≤ most) }
-    ensures before { Rises (at + result) splices.now }
-{
-    if splices.is_empty() {
-        return most;
-    }
-    most.min(splices[0] - at)
-}
-
-/// How many bytes there are up to the first LF, this among them.
-fn bytes_to_feed(bytes: &[u8]) -> usize
-    requires { 0 < length bytes.now }
-    ensures within { (0 < result) × (result ≤ length bytes.now) }
-    ensures plain { (k : ℕ) → k + 1 < result → is_line_feed (slice_index bytes.now k) ≡ false }
-{
-    for (i, byte) in bytes.iter().enumerate() {
-        if *byte == LINE_FEED {
-            return i + 1;
-        }
-    }
-    bytes.len()
-}
-
 /// A walk over marks, which contracts see as the list of the marks that are left.
 #[derive(Drop)]
 pub struct Walk<'a> {
@@ -138,7 +78,8 @@ impl<'a> Walk<'a> {
         self.line = line;
     }
 
-    /// Goes past marks and adds their lines to a set. After want of memory both may be used on, and no more is said of them.
+    /// Goes past marks and adds their lines to a set. Its one error is want of memory, after which both may be used on, and
+    /// no more is said of them.
     pub fn pass_counted(&mut self, count: usize, lines: &mut Lines) -> Result<(), NoMemory>
         requires { count ≤ length self.old }
         ensures passed { OnOk result (self.new ≡ drop count self.old) }
@@ -165,4 +106,64 @@ impl<'a> Walk<'a> {
         let (ahead, _) = self.bytes.split_at(reach);
         bytes_to_feed(ahead)
     }
+}
+
+/// The line behind bytes that begin on a line.
+fn line_behind_all(from: u32, bytes: &[u8]) -> u32
+    ensures { result ≡ min (2 ^ 32 - 1) (from + feeds bytes.now) }
+{
+    let mut line = from;
+    for byte in bytes {
+        line = line_behind(line, *byte);
+    }
+    line
+}
+
+/// Whether the splice at a place stands at a mark or before it.
+fn is_passed(splices: &[usize], place: usize, at: usize) -> bool
+    ensures { IsTrue result ↔ ((place < length splices.now) × slice_index splices.now place ≤ at) }
+{
+    place < splices.len() && splices[place] <= at
+}
+
+/// The splices behind the mark `at`, and the line of this mark, where it is given without these splices.
+fn past_splices(splices: &[usize], at: usize, from: u32) -> (&[usize], u32)
+    requires { Rises 0 splices.now }
+    ensures rises { Rises (at + 1) result.0.now }
+    ensures same { (bytes : List ℕ) → marks_held result.1 at bytes result.0.now ≡ marks_held from at bytes splices.now }
+{
+    let mut line = from;
+    let mut count = 0;
+    'splices: while is_passed(splices, count, at) {
+        count += 1;
+        line = line.saturating_add(1);
+    }
+    (&splices[count..], line)
+}
+
+/// How many marks from the mark `at` on, up to a number, stand before the next splice.
+fn marks_to_splice(splices: &[usize], at: usize, most: usize) -> usize
+    requires rises { Rises (at + 1) splices.now }
+    requires full { 0 < most }
+    ensures within { (0 < result) × (result ≤ most) }
+    ensures before { Rises (at + result) splices.now }
+{
+    if splices.is_empty() {
+        return most;
+    }
+    most.min(splices[0] - at)
+}
+
+/// How many bytes there are up to the first LF, this among them.
+fn bytes_to_feed(bytes: &[u8]) -> usize
+    requires { 0 < length bytes.now }
+    ensures within { (0 < result) × (result ≤ length bytes.now) }
+    ensures plain { (k : ℕ) → k + 1 < result → is_line_feed (slice_index bytes.now k) ≡ false }
+{
+    for (i, byte) in bytes.iter().enumerate() {
+        if *byte == LINE_FEED {
+            return i + 1;
+        }
+    }
+    bytes.len()
 }
