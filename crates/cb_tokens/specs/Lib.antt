@@ -1,3 +1,5 @@
 pub mod Forms
 pub mod Cut
 pub mod Logical
+pub mod Classes
+pub mod Scan

@@ -1,10 +1,16 @@
 //! Comments and preprocessing tokens: a source cut into its pieces and its logical lines.
 #![tactic(auto)]
 
+mod class;
+mod comment;
 mod fault;
 mod first;
 mod lexed;
 mod lexing;
+mod number;
+mod punctuator;
+mod quote;
+mod runs;
 mod token;
 
 pub use fault::LexFault;

@@ -1,0 +1,4 @@
+pub mod Longest
+pub mod Numbers
+pub mod Quotes
+pub mod Comments

@@ -1,0 +1,234 @@
+-- The end of a quote, a byte at a time.
+use Rattle.std.proofs.Common.{◌≡◌, ℕ, suc, zero, ◌+◌, ◌<◌, ◌≤◌, ◌==◌, Bool, true, false, not, cond, ◌&&◌, ◌||◌, List, [], ◌∷◌, length, get_or, take, drop, ltb, zero-add, add-zero, length-drop, sym, refl, ap, ◌∙◌, subst, arith, ◌⊎◌, inl, inr, ⊎_elim}
+use Rattle.std.proofs.lemmas.Bool.{false≢true, both_ways, or_cases, eqb-true, eq-eqb, lt-ltb, cases_lt, cases_Bool, and_parts, ltb-true, not-true, cond-true, cond-false}
+use Rattle.std.proofs.lemmas.List.{drop_all}
+use Rattle.cb_tokens.specs.Forms.{is_quote, is_line_feed, closes, stays_unclosed}
+use Rattle.cb_tokens.specs.Scan.{IsLongest, HasNone, EndsQuote, quote_step}
+use Rattle.cb_tokens.specs.declared.quote.QuoteEnd.{QuoteEnd}
+use Rattle.cb_tokens.specs.declared.quote.QuoteEnd.TheVariants.{Closed, Unclosed}
+use Rattle.cb_tokens.proofs.Longest.{AreWithin, within_on, longest_on, none_on, within_over, longest_over, none_over, split_at, head_at, counts_on}
+
+-- a quote is ' or "
+quote_cases : (q : ℕ) → is_quote q ≡ true → (q ≡ 39) ⊎ (q ≡ 34)
+unfolding is_quote
+quote_cases q h = ⊎_elim (λ e. inl (eqb-true q 39 e)) (λ e. inr (eqb-true q 34 e)) (or_cases (q == 39) (q == 34) h)
+
+-- what holds of both quotes holds of a quote
+for_quote : (P : ℕ → Type 0) (q : ℕ) → is_quote q ≡ true → P 39 → P 34 → P q
+for_quote P q h one two = ⊎_elim (λ e. subst P (sym e) one) (λ e. subst P (sym e) two) (quote_cases q h)
+
+-- a line end closes no quote, and no quote stays open over it
+feed_closes : (q b : ℕ) (xs : List ℕ) → is_quote q ≡ true → is_line_feed b ≡ true → closes q (b ∷ xs) ≡ false
+unfolding closes is_line_feed
+feed_closes q b [] h e = rw (eqb-true b 10 e) (for_quote (λ q. (10 == q) ≡ false) q h refl refl)
+feed_closes q b (x ∷ xs) h e = rw (eqb-true b 10 e) (for_quote (λ q. cond ((10 == q) || true) false (closes q (x ∷ xs)) ≡ false) q h refl refl)
+
+feed_stays : (q b : ℕ) (xs : List ℕ) → is_line_feed b ≡ true → stays_unclosed q (b ∷ xs) ≡ false
+unfolding stays_unclosed
+feed_stays q b [] e = grind arith
+feed_stays q b (x ∷ xs) e = grind arith
+
+-- the byte does not take the next one with it, as a backslash does
+abbrev Alone : ℕ → List ℕ → Type 0
+Alone b [] = Unit {0}
+Alone b (c ∷ cs) = ((b == 92) && not (is_line_feed c)) ≡ false
+
+-- a byte that is neither the quote nor a line end, and no backslash that takes the next one with it
+record Plain (q b : ℕ) (bs : List ℕ) : Type 0 where
+  other : (b == q) ≡ false
+  stays : is_line_feed b ≡ false
+  alone : Alone b bs
+
+alone_goes : (x y u v : Bool) → (x && not y) ≡ false → (y ≡ true → v ≡ false) → cond x (not y && u) v ≡ v
+alone_goes false y u v e h = refl
+alone_goes true true u v e h = sym (h refl)
+alone_goes true false u v e h = absurd (false≢true (sym e))
+
+closes_on : (q b : ℕ) (bs : List ℕ) → is_quote q ≡ true → Plain q b bs → (m : ℕ) → closes q (b ∷ take m bs) ≡ closes q (take m bs)
+unfolding closes
+closes_on q b bs quote p zero = p.other
+closes_on q b [] quote p (suc m) = p.other
+closes_on q b (c ∷ cs) quote p (suc m) =
+    let other = p.other in
+    let stays = p.stays in
+    rw (other, stays) (alone_goes (b == 92) (is_line_feed c) (closes q (take m cs)) (closes q (c ∷ take m cs)) p.alone (λ e. feed_closes q c (take m cs) quote e))
+
+stays_on : (q b : ℕ) (bs : List ℕ) → Plain q b bs → (m : ℕ) → stays_unclosed q (b ∷ take m bs) ≡ stays_unclosed q (take m bs)
+unfolding stays_unclosed
+stays_on q b bs p zero = let other = p.other in let stays = p.stays in rw (other, stays) refl
+stays_on q b [] p (suc m) = let other = p.other in let stays = p.stays in rw (other, stays) refl
+stays_on q b (c ∷ cs) p (suc m) =
+    let other = p.other in
+    let stays = p.stays in
+    rw (other, stays) (alone_goes (b == 92) (is_line_feed c) (stays_unclosed q (take m cs)) (stays_unclosed q (c ∷ take m cs)) p.alone (λ e. feed_stays q c (take m cs) e))
+
+-- a backslash and the byte that it takes with it
+closes_over : (q c : ℕ) (cs : List ℕ) → is_quote q ≡ true → is_line_feed c ≡ false → (m : ℕ) → closes q (92 ∷ c ∷ take m cs) ≡ closes q (take m cs)
+unfolding closes is_line_feed
+closes_over q c cs quote e m =
+    for_quote (λ q. closes q (92 ∷ c ∷ take m cs) ≡ closes q (take m cs)) q quote (rw e refl) (rw e refl)
+
+stays_over : (q c : ℕ) (cs : List ℕ) → is_quote q ≡ true → is_line_feed c ≡ false → (m : ℕ) → stays_unclosed q (92 ∷ c ∷ take m cs) ≡ stays_unclosed q (take m cs)
+unfolding stays_unclosed is_line_feed
+stays_over q c cs quote e m =
+    for_quote (λ q. stays_unclosed q (92 ∷ c ∷ take m cs) ≡ stays_unclosed q (take m cs)) q quote (rw e refl) (rw e refl)
+
+none_closes : (q : ℕ) → closes q [] ≡ false
+unfolding closes
+none_closes q = refl
+
+slash_closes : (q : ℕ) → is_quote q ≡ true → closes q (92 ∷ []) ≡ false
+unfolding closes
+slash_closes q quote = for_quote (λ q. (92 == q) ≡ false) q quote refl refl
+
+-- the answer so many bytes further on
+abbrev pub moved : ℕ → QuoteEnd → QuoteEnd
+moved n (Closed k) = Closed (n + k)
+moved n (Unclosed k) = Unclosed (n + k)
+
+abbrev further : QuoteEnd → QuoteEnd
+further (Closed k) = Closed (suc k)
+further (Unclosed k) = Unclosed (suc k)
+
+moved_none : (r : QuoteEnd) → moved 0 r ≡ r
+moved_none (Closed k) = ap Closed (zero-add k)
+moved_none (Unclosed k) = ap Unclosed (zero-add k)
+
+moved_further : (n : ℕ) (r : QuoteEnd) → moved n (further r) ≡ moved (n + 1) r
+moved_further n (Closed k) = let e : n + suc k ≡ (n + 1) + k = omega arith in ap Closed e
+moved_further n (Unclosed k) = let e : n + suc k ≡ (n + 1) + k = omega arith in ap Unclosed e
+
+moved_over : (n : ℕ) (r : QuoteEnd) → moved n (further (further r)) ≡ moved (n + 2) r
+moved_over n (Closed k) = let e : n + suc (suc k) ≡ (n + 2) + k = omega arith in ap Closed e
+moved_over n (Unclosed k) = let e : n + suc (suc k) ≡ (n + 2) + k = omega arith in ap Unclosed e
+
+ends_on : (q b : ℕ) (bs : List ℕ) → is_quote q ≡ true → Plain q b bs → (r : QuoteEnd) → EndsQuote q bs r → EndsQuote q (b ∷ bs) (further r)
+ends_on q b bs quote p (Closed k) e = (
+  longest_on (closes q) (closes q) b bs (closes_on q b bs quote p) k e.0,
+  within_on (stays_unclosed q) (stays_unclosed q) b bs (stays_on q b bs p) k e.1,
+)
+ends_on q b bs quote p (Unclosed k) e = (
+  longest_on (stays_unclosed q) (stays_unclosed q) b bs (stays_on q b bs p) k e.0,
+  none_on (closes q) (closes q) b bs (closes_on q b bs quote p) (none_closes q) e.1,
+)
+
+ends_over : (q c : ℕ) (cs : List ℕ) → is_quote q ≡ true → is_line_feed c ≡ false → (r : QuoteEnd) → EndsQuote q cs r → EndsQuote q (92 ∷ c ∷ cs) (further (further r))
+ends_over q c cs quote f (Closed k) e = (
+  longest_over (closes q) (closes q) 92 c cs (closes_over q c cs quote f) k e.0,
+  within_over (stays_unclosed q) (stays_unclosed q) 92 c cs (stays_over q c cs quote f) k e.1,
+)
+ends_over q c cs quote f (Unclosed k) e = (
+  longest_over (stays_unclosed q) (stays_unclosed q) 92 c cs (stays_over q c cs quote f) k e.0,
+  none_over (closes q) (closes q) 92 c cs (closes_over q c cs quote f) (none_closes q) (slash_closes q quote) e.1,
+)
+
+-- the quote stands at the front
+closed_within : (q : ℕ) (bs : List ℕ) → AreWithin (closes q) (q ∷ bs) 1
+unfolding closes
+closed_within q bs zero le h = omega arith
+closed_within q bs (suc zero) le h = omega arith
+closed_within q [] (suc (suc m)) le h = omega arith
+closed_within q (c ∷ cs) (suc (suc m)) le h = absurd (false≢true (sym (rw (eq-eqb q q refl) refl) ∙ h))
+
+unclosed_within : (q : ℕ) (bs : List ℕ) → AreWithin (stays_unclosed q) (q ∷ bs) 1
+unfolding stays_unclosed
+unclosed_within q bs zero le h = omega arith
+unclosed_within q bs (suc zero) le h = omega arith
+unclosed_within q [] (suc (suc m)) le h = omega arith
+unclosed_within q (c ∷ cs) (suc (suc m)) le h = absurd (false≢true (sym (rw (eq-eqb q q refl) refl) ∙ h))
+
+ends_here : (q : ℕ) (bs : List ℕ) → EndsQuote q (q ∷ bs) (Closed 1)
+unfolding closes
+ends_here q bs = (
+  record { within = omega arith; holds = eq-eqb q q refl; longest = closed_within q bs },
+  unclosed_within q bs,
+)
+
+-- nothing is left, or a line end stands at the front
+abbrev AtLineEnd : List ℕ → Type 0
+AtLineEnd [] = Unit {0}
+AtLineEnd (b ∷ bs) = is_line_feed b ≡ true
+
+left_within : (q : ℕ) (xs : List ℕ) → AtLineEnd xs → AreWithin (stays_unclosed q) xs 0
+left_within q xs e zero le h = omega arith
+left_within q [] e (suc m) le h = omega arith
+left_within q (b ∷ bs) e (suc m) le h = absurd (false≢true (sym (feed_stays q b (take m bs) e) ∙ h))
+
+none_left : (q : ℕ) (xs : List ℕ) → is_quote q ≡ true → AtLineEnd xs → HasNone (closes q) xs
+none_left q xs quote e zero le = none_closes q
+none_left q [] quote e (suc m) le = none_closes q
+none_left q (b ∷ bs) quote e (suc m) le = feed_closes q b (take m bs) quote e
+
+ends_left : (q : ℕ) (xs : List ℕ) → is_quote q ≡ true → AtLineEnd xs → EndsQuote q xs (Unclosed 0)
+unfolding stays_unclosed
+ends_left q xs quote e =
+    (record { within = omega arith; holds = refl; longest = left_within q xs e }, none_left q xs quote e)
+
+-- where the quote ends from an index on is where it ends from the start
+abbrev pub QuoteAhead : ℕ → List ℕ → ℕ → Type 0
+QuoteAhead q xs n = (r : QuoteEnd) → EndsQuote q (drop n xs) r → EndsQuote q xs (moved n r)
+
+pub ahead_start : (q : ℕ) (xs : List ℕ) → QuoteAhead q xs 0
+ahead_start q xs r e = subst (EndsQuote q xs) (sym (moved_none r)) e
+
+pub ahead_closed : (q : ℕ) (xs : List ℕ) (n : ℕ) → n < length xs → get_or xs n 0 ≡ q → QuoteAhead q xs n → EndsQuote q xs (Closed (n + 1))
+ahead_closed q xs n h e ahead =
+    ahead (Closed 1) (subst (λ ys. EndsQuote q ys (Closed 1)) (sym (split_at xs n h ∙ ap (λ b. b ∷ drop (n + 1) xs) e)) (ends_here q (drop (n + 1) xs)))
+
+ahead_left : (q : ℕ) (xs : List ℕ) (n : ℕ) → is_quote q ≡ true → AtLineEnd (drop n xs) → QuoteAhead q xs n → EndsQuote q xs (Unclosed n)
+ahead_left q xs n quote e ahead =
+    subst (λ k. EndsQuote q xs (Unclosed k)) (add-zero n) (ahead (Unclosed 0) (ends_left q (drop n xs) quote e))
+
+pub ahead_feed : (q : ℕ) (xs : List ℕ) (n : ℕ) → is_quote q ≡ true → n < length xs → is_line_feed (get_or xs n 0) ≡ true → QuoteAhead q xs n → EndsQuote q xs (Unclosed n)
+ahead_feed q xs n quote h e ahead = ahead_left q xs n quote (subst AtLineEnd (sym (split_at xs n h)) e) ahead
+
+pub ahead_end : (q : ℕ) (xs : List ℕ) (n : ℕ) → is_quote q ≡ true → length xs ≤ n → QuoteAhead q xs n → EndsQuote q xs (Unclosed n)
+ahead_end q xs n quote h ahead = ahead_left q xs n quote (subst AtLineEnd (sym (drop_all n xs h)) tt) ahead
+
+-- one byte further on
+ahead_on : (q : ℕ) (xs : List ℕ) (n : ℕ) → is_quote q ≡ true → n < length xs → Plain q (get_or xs n 0) (drop (n + 1) xs) → QuoteAhead q xs n → QuoteAhead q xs (n + 1)
+ahead_on q xs n quote h p ahead r e =
+    subst (EndsQuote q xs) (moved_further n r)
+    (ahead (further r) (subst (λ ys. EndsQuote q ys (further r)) (sym (split_at xs n h)) (ends_on q (get_or xs n 0) (drop (n + 1) xs) quote p r e)))
+
+-- two bytes further on
+ahead_over : (q : ℕ) (xs : List ℕ) (n : ℕ) → is_quote q ≡ true → n + 1 < length xs → get_or xs n 0 ≡ 92 → is_line_feed (get_or xs (n + 1) 0) ≡ false → QuoteAhead q xs n → QuoteAhead q xs (n + 2)
+ahead_over q xs n quote h b f ahead r e =
+    let two : (n + 1) + 1 ≡ n + 2 = omega arith in
+    let opened : drop n xs ≡ 92 ∷ get_or xs (n + 1) 0 ∷ drop (n + 2) xs =
+        split_at xs n (omega arith) ∙ ap (λ v. v ∷ drop (n + 1) xs) b ∙ ap (λ ys. 92 ∷ ys) (split_at xs (n + 1) h ∙ ap (λ k. get_or xs (n + 1) 0 ∷ drop k xs) two) in
+    subst (EndsQuote q xs) (moved_over n r)
+    (ahead (further (further r)) (subst (λ ys. EndsQuote q ys (further (further r))) (sym opened) (ends_over q (get_or xs (n + 1) 0) (drop (n + 2) xs) quote f r e)))
+
+inner : (x z y : Bool) → y ≡ true → (x && y && z) ≡ false → (x && z) ≡ false
+inner x z true h e = elim x as (λ x. (x && true && z) ≡ false → (x && z) ≡ false) [ true ↦ λ e. e | false ↦ λ e. e ] e
+inner x z false h e = absurd (false≢true h)
+
+alone_at : (xs : List ℕ) (n : ℕ) → ((get_or xs n 0 == 92) && ltb (n + 1) (length xs) && not (is_line_feed (get_or xs (n + 1) 0))) ≡ false → Alone (get_or xs n 0) (drop (n + 1) xs)
+alone_at xs n e =
+    ⊎_elim
+    (λ h. subst (Alone (get_or xs n 0)) (sym (split_at xs (n + 1) h)) (inner (get_or xs n 0 == 92) (not (is_line_feed (get_or xs (n + 1) 0))) (ltb (n + 1) (length xs)) (lt-ltb (n + 1) (length xs) h) e))
+    (λ h. subst (Alone (get_or xs n 0)) (sym (drop_all (n + 1) xs h)) tt)
+    (cases_lt (n + 1) (length xs))
+
+-- as far as a step goes
+pub ahead_step : (q : ℕ) (xs : List ℕ) (n : ℕ) → is_quote q ≡ true → n < length xs → (get_or xs n 0 == q) ≡ false → is_line_feed (get_or xs n 0) ≡ false → QuoteAhead q xs n → (n + quote_step xs n ≤ length xs) × QuoteAhead q xs (n + quote_step xs n)
+ahead_step q xs n quote h other stays ahead =
+    let escapes : Bool = (get_or xs n 0 == 92) && ltb (n + 1) (length xs) in
+    let same : Bool = not (is_line_feed (get_or xs (n + 1) 0)) in
+    let P : ℕ → Type 0 = λ k. (n + k ≤ length xs) × QuoteAhead q xs (n + k) in
+    ⊎_elim
+    (λ e.
+        let both = and_parts escapes same e in
+        let parts = and_parts (get_or xs n 0 == 92) (ltb (n + 1) (length xs)) both.0 in
+        let room : n + 1 < length xs = ltb-true (n + 1) (length xs) parts.1 in
+        subst P (sym (cond-true (escapes && same) 2 1 e)) (
+          omega arith,
+          ahead_over q xs n quote room (eqb-true (get_or xs n 0) 92 parts.0) (not-true (is_line_feed (get_or xs (n + 1) 0)) both.1) ahead,
+        ))
+    (λ e.
+        subst P (sym (cond-false (escapes && same) 2 1 e)) (
+          omega arith,
+          ahead_on q xs n quote h (record { other = other; stays = stays; alone = alone_at xs n e }) ahead,
+        ))
+    (cases_Bool (escapes && same))

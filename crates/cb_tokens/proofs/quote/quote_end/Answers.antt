@@ -1,0 +1,24 @@
+use Rattle.std.proofs.Common.{ℕ, ◌+◌, ◌≤◌, length, sym, ◌∙◌, subst, arith, ne_eqb}
+use Rattle.cb_tokens.proofs.Quotes.{QuoteAhead, ahead_start, ahead_closed, ahead_feed, ahead_step, ahead_end}
+use Rattle.cb_tokens.proofs.quote.quote_end.Goals as goal
+
+pub bytes-init : goal.bytes-init
+bytes-init c = (omega arith, ahead_start c.args.quote c.args.bytes.now)
+
+pub returns-then-byte-quote : goal.returns-then-byte-quote
+returns-then-byte-quote c =
+    ahead_closed c.args.quote c.args.bytes.now c.bytes.n c.bytes-test.true c.if-byte-quote.true c.bytes.invariant.1
+
+pub returns-then-is_line_feed : goal.returns-then-is_line_feed
+returns-then-is_line_feed c =
+    ahead_feed c.args.quote c.args.bytes.now c.bytes.n c.requires c.bytes-test.true (cc) c.bytes.invariant.1
+
+pub bytes-preserved : goal.bytes-preserved
+bytes-preserved c =
+    let P : ℕ → Type 0 =
+        λ k. (c.bytes.n + k ≤ length c.args.bytes.now) × QuoteAhead c.args.quote c.args.bytes.now (c.bytes.n + k) in
+    subst P (sym c.quote_step-n.ensures)
+    (ahead_step c.args.quote c.args.bytes.now c.bytes.n c.requires c.bytes-test.true (ne_eqb _ _ c.if-byte-quote.false) (cc) c.bytes.invariant.1)
+
+pub returns : goal.returns
+returns c = ahead_end c.args.quote c.args.bytes.now c.bytes.n c.requires c.bytes-test.false c.bytes.invariant.1

@@ -1,0 +1,60 @@
+//! Runs of bytes that are each of one kind.
+ghost use Rattle.std.specs.Prelude.{◌≡◌, not, slice_index};
+ghost use Rattle.std.specs.List.{prefix_len};
+ghost use Rattle.cb_tokens.specs.Forms.{is_white, is_name_byte, is_line_feed};
+
+/// The byte at an index, or 0 past the end.
+#[inline]
+pub(crate) fn byte_at(bytes: &[u8], index: usize) -> u8
+    ensures { result ≡ slice_index bytes.now index }
+{
+    if index < bytes.len() { bytes[index] } else { 0 }
+}
+
+/// Whether it is white.
+#[inline]
+#[tactic(auto, unfolding(crate::specs::Forms::is_white))]
+fn is_white(byte: u8) -> bool
+    ensures { result ≡ is_white byte }
+{
+    matches!(byte, b' ' | b'\t' | 0x0b | 0x0c | b'\r')
+}
+
+/// Whether an identifier goes on with it.
+#[inline]
+#[tactic(auto, unfolding(crate::specs::Forms::is_name_byte, crate::specs::Forms::is_name_start))]
+pub(crate) fn is_name_byte(byte: u8) -> bool
+    ensures { result ≡ is_name_byte byte }
+{
+    matches!(byte, b'a'..=b'z' | b'A'..=b'Z' | b'_' | b'0'..=b'9' | b'$' | 0x80..=0xff)
+}
+
+/// Whether it ends a line.
+#[inline]
+#[tactic(auto, unfolding(crate::specs::Forms::is_line_feed))]
+pub(crate) fn is_line_feed(byte: u8) -> bool
+    ensures { result ≡ is_line_feed byte }
+{
+    byte == b'\n'
+}
+
+/// The number of white bytes at the front.
+pub(crate) fn white_len(bytes: &[u8]) -> usize
+    ensures { result ≡ prefix_len is_white bytes.now }
+{
+    bytes.iter().take_while(|b| is_white(**b)).count()
+}
+
+/// The number of bytes at the front that an identifier goes on with.
+pub(crate) fn name_len(bytes: &[u8]) -> usize
+    ensures { result ≡ prefix_len is_name_byte bytes.now }
+{
+    bytes.iter().take_while(|b| is_name_byte(**b)).count()
+}
+
+/// The number of bytes that are left of the line.
+pub(crate) fn line_len(bytes: &[u8]) -> usize
+    ensures { result ≡ prefix_len (λ b. not (is_line_feed b)) bytes.now }
+{
+    bytes.iter().take_while(|b| !is_line_feed(**b)).count()
+}
