@@ -2,3 +2,5 @@ pub mod Longest
 pub mod Numbers
 pub mod Quotes
 pub mod Comments
+pub mod Punctuators
+pub mod Heads
