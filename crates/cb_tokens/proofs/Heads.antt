@@ -27,7 +27,7 @@ start (Token Str) b = (b == 34) || is_prefix_letter b || (b == 117)
 start (Token Punct) b = is_punctuator (b ∷ [])
 start (Token Other) b = is_quote b || is_stray (b ∷ [])
 
-begins_first : (f s b : ℕ) (bs : List ℕ) → begins_with f s (b ∷ bs) ≡ true → (b == f) ≡ true
+pub begins_first : (f s b : ℕ) (bs : List ℕ) → begins_with f s (b ∷ bs) ≡ true → (b == f) ≡ true
 unfolding begins_with
 begins_first f s b [] h = absurd (false≢true h)
 begins_first f s b (c ∷ cs) h = (and_parts (b == f) (c == s) h).0

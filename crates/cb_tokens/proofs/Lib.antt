@@ -4,3 +4,5 @@ pub mod Quotes
 pub mod Comments
 pub mod Punctuators
 pub mod Heads
+pub mod Prefixes
+pub mod Arms

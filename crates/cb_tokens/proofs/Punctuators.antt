@@ -9,7 +9,7 @@ use Rattle.cb_tokens.specs.Forms.{is_punctuator, punctuators}
 use Rattle.cb_tokens.specs.Scan.{IsLongest}
 use Rattle.cb_tokens.proofs.Longest.{AreWithin}
 
-among : (test : List ℕ → Bool) (l : List ℕ) (ps : List (List ℕ)) → list_all test ps ≡ true → list_any (λ p. bytes_eq p l) ps ≡ true → test l ≡ true
+pub among : (test : List ℕ → Bool) (l : List ℕ) (ps : List (List ℕ)) → list_all test ps ≡ true → list_any (λ p. bytes_eq p l) ps ≡ true → test l ≡ true
 among test l [] all any = absurd (false≢true any)
 among test l (p ∷ ps) all any =
     let parts = and_parts (test p) (list_all test ps) all in
