@@ -20,11 +20,11 @@ use Rattle.cb_tokens.proofs.Punctuators.{of_punctuators, among}
 use Rattle.cb_tokens.proofs.Heads.{kinds, Each, IsMost, begins_first, stands}
 
 -- no longer punctuator begins with the byte
-alone : ℕ → Bool
+pub alone : ℕ → Bool
 alone b = list_all (λ p. not (get_or p 0 0 == b) || leb (length p) 1) punctuators
 
 -- what is so of the bytes of a class
-fact : Class → ℕ → Bool
+unfoldable pub fact : Class → ℕ → Bool
 fact classes.White b = is_white b
 fact classes.LineFeed b = b == 10
 fact classes.Name b = is_name_start b
@@ -37,7 +37,7 @@ fact classes.Single b = is_punctuator (b ∷ []) && alone b
 fact classes.Operator b = is_punctuator (b ∷ [])
 fact classes.Stray b = is_stray (b ∷ []) && not (is_quote b)
 
-is_slash : Class → Bool
+unfoldable pub is_slash : Class → Bool
 is_slash classes.White = false
 is_slash classes.LineFeed = false
 is_slash classes.Name = false
@@ -58,7 +58,7 @@ slashes : agree_below (λ b. is_slash (class_of b)) (λ b. b == 47) 256 ≡ true
 unfolding is_slash class_of is_white is_line_feed is_name_start is_prefix_letter is_quote
 slashes = refl
 
-fact_of : (c : Class) (xs : List ℕ) → BeginsIn c xs → fact c (get_or xs 0 0) ≡ true
+pub fact_of : (c : Class) (xs : List ℕ) → BeginsIn c xs → fact c (get_or xs 0 0) ≡ true
 fact_of c xs b =
     subst (λ d. fact d (get_or xs 0 0) ≡ true) b.is (agree_below_at (λ b. fact (class_of b) b) (λ _. true) 256 (get_or xs 0 0) facts b.byte)
 
@@ -66,21 +66,21 @@ not_slash : (c : Class) (xs : List ℕ) → BeginsIn c xs → is_slash c ≡ fal
 not_slash c xs b e =
     sym (agree_below_at (λ b. is_slash (class_of b)) (λ b. b == 47) 256 (get_or xs 0 0) slashes b.byte) ∙ ap is_slash b.is ∙ e
 
-no_slash_closed : (xs : List ℕ) → (get_or xs 0 0 == 47) ≡ false → is_open_comment xs ≡ false
+pub no_slash_closed : (xs : List ℕ) → (get_or xs 0 0 == 47) ≡ false → is_open_comment xs ≡ false
 unfolding is_open_comment begins_with
 no_slash_closed [] e = refl
 no_slash_closed (x ∷ []) e = refl
 no_slash_closed (x ∷ y ∷ ys) e = rw e refl
 
-closed : (c : Class) (xs : List ℕ) → BeginsIn c xs → is_slash c ≡ false → is_open_comment xs ≡ false
+pub closed : (c : Class) (xs : List ℕ) → BeginsIn c xs → is_slash c ≡ false → is_open_comment xs ≡ false
 closed c xs b e = no_slash_closed xs (not_slash c xs b e)
 
 -- prefixes behind the first byte, and behind the first two
-most1 : (k : PieceKind) (x : ℕ) (ys : List ℕ) (n : ℕ) → ((m : ℕ) → m ≤ length ys → fits k (x ∷ take m ys) ≡ true → m ≤ n) → IsMost (x ∷ ys) (suc n) k
+pub most1 : (k : PieceKind) (x : ℕ) (ys : List ℕ) (n : ℕ) → ((m : ℕ) → m ≤ length ys → fits k (x ∷ take m ys) ≡ true → m ≤ n) → IsMost (x ∷ ys) (suc n) k
 most1 k x ys n h zero le e = omega arith
 most1 k x ys n h (suc m) le e = let more : m ≤ n = h m (omega arith) e in omega arith
 
-most2 : (k : PieceKind) (x y : ℕ) (zs : List ℕ) (n : ℕ) → ((m : ℕ) → m ≤ length zs → fits k (x ∷ y ∷ take m zs) ≡ true → m ≤ n) → IsMost (x ∷ y ∷ zs) (suc (suc n)) k
+pub most2 : (k : PieceKind) (x y : ℕ) (zs : List ℕ) (n : ℕ) → ((m : ℕ) → m ≤ length zs → fits k (x ∷ y ∷ take m zs) ≡ true → m ≤ n) → IsMost (x ∷ y ∷ zs) (suc (suc n)) k
 most2 k x y zs n h zero le e = omega arith
 most2 k x y zs n h (suc zero) le e = omega arith
 most2 k x y zs n h (suc (suc m)) le e = let more : m ≤ n = h m (omega arith) e in omega arith

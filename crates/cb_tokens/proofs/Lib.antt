@@ -6,3 +6,6 @@ pub mod Punctuators
 pub mod Heads
 pub mod Prefixes
 pub mod Arms
+pub mod MoreArms
+pub mod QuoteArms
+pub mod PrefixArms

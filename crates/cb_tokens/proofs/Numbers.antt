@@ -6,7 +6,7 @@ use Rattle.cb_tokens.specs.Forms.{is_name_start, is_name_byte, continues_number,
 use Rattle.cb_tokens.specs.Scan.{IsLongest}
 
 -- a byte of a name goes on with a number, whatever stands beside it
-name_continues : (before b after : ℕ) → is_name_byte b ≡ true → continues_number before b after ≡ true
+pub name_continues : (before b after : ℕ) → is_name_byte b ≡ true → continues_number before b after ≡ true
 unfolding continues_number
 name_continues before b after h = rw h refl
 

@@ -9,7 +9,7 @@ use Rattle.cb_tokens.specs.declared.quote.QuoteEnd.TheVariants.{Closed, Unclosed
 use Rattle.cb_tokens.proofs.Longest.{AreWithin, within_on, longest_on, none_on, within_over, longest_over, none_over, split_at, head_at, counts_on}
 
 -- a quote is ' or "
-quote_cases : (q : ℕ) → is_quote q ≡ true → (q ≡ 39) ⊎ (q ≡ 34)
+pub quote_cases : (q : ℕ) → is_quote q ≡ true → (q ≡ 39) ⊎ (q ≡ 34)
 unfolding is_quote
 quote_cases q h = ⊎_elim (λ e. inl (eqb-true q 39 e)) (λ e. inr (eqb-true q 34 e)) (or_cases (q == 39) (q == 34) h)
 

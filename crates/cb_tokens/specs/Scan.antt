@@ -1,6 +1,8 @@
 -- What the scanners of single forms answer (own).
 use Rattle.std.specs.Prelude.{◌≡◌, ℕ, ◌+◌, ◌≤◌, ◌==◌, ◌&&◌, Bool, true, false, not, nat_lt, if◌then◌else◌, List, length, take, slice_index, Option, Some, None}
 use Rattle.cb_tokens.specs.Forms.{is_quote, is_line_feed, closes, stays_unclosed, ends_comment, has_comment_end}
+use Rattle.cb_tokens.specs.declared.token.TokenKind.{TokenKind}
+use Rattle.cb_tokens.specs.declared.token.TokenKind.TheVariants.{Char, Str}
 use Rattle.cb_tokens.specs.declared.quote.QuoteEnd.{QuoteEnd}
 use Rattle.cb_tokens.specs.declared.quote.QuoteEnd.TheVariants.{Closed, Unclosed}
 
@@ -31,6 +33,10 @@ quote_step bytes i =
 abbrev pub EndsComment : List ℕ → Option ℕ → Type 0
 EndsComment bytes None = has_comment_end bytes ≡ false
 EndsComment bytes (Some n) = IsLongest ends_comment bytes n × (has_comment_end bytes ≡ true)
+
+-- the kind of a token between such quotes (6.4.4.4, 6.4.5)
+abbrev pub quoted_kind : ℕ → TokenKind
+quoted_kind quote = if quote == 39 then Char else Str
 
 -- the bytes of a prefix that stand directly before a quote at the front (own)
 abbrev pub prefix_before_quote : List ℕ → ℕ
