@@ -1,23 +1,22 @@
 -- What stands first, class by class.
-use Rattle.std.proofs.Common.{◌≡◌, ℕ, suc, zero, ◌+◌, ◌<◌, ◌≤◌, ◌==◌, Bool, true, false, not, cond, ◌&&◌, ◌||◌, Option, Some, None, List, [], ◌∷◌, length, get_or, take, drop, leb, eq-eqb, length-take-le, length-drop, one-add, add-one, sym, refl, ap, ◌∙◌, subst, arith, ⊎_elim}
-use Rattle.std.specs.List.{list_all, list_any, prefix_len}
+use Rattle.std.proofs.Common.{◌≡◌, ℕ, suc, zero, ◌<◌, ◌≤◌, ◌==◌, Bool, true, false, not, ◌&&◌, ◌||◌, List, [], ◌∷◌, length, get_or, take, leb, eq-eqb, length-take-le, sym, refl, ap, ◌∙◌, subst, arith, ⊎_elim}
+use Rattle.std.specs.List.{list_all, prefix_len}
 use Rattle.std.specs.Char.{is_ascii_digit}
-use Rattle.std.proofs.lemmas.Bool.{false≢true, both_ways, and_parts, and_from, and_left, or_cases, or_left, or_right, not-true, eqb-true, leb-true, cases_Bool, false_from_ne_true, agree_below, agree_below_at}
+use Rattle.std.proofs.lemmas.Bool.{false≢true, both_ways, and_parts, and_from, and_left, or_cases, or_left, or_right, not-true, eqb-true, leb-true, agree_below, agree_below_at}
 use Rattle.std.proofs.lemmas.Slice.Eq.{bytes_eq-Decides}
-use Rattle.cb_tokens.specs.declared.token.TokenKind.TheVariants.{Identifier, Number, Char, Str, Punct, Other}
+use Rattle.cb_tokens.specs.declared.token.TokenKind.TheVariants.{Identifier, Punct, Other}
 use Rattle.cb_tokens.specs.declared.token.PieceKind.{PieceKind}
-use Rattle.cb_tokens.specs.declared.token.PieceKind.TheVariants.{White, Comment, LineEnd, Token}
+use Rattle.cb_tokens.specs.declared.token.PieceKind.TheVariants.{White, LineEnd, Token}
 use Rattle.cb_tokens.specs.declared.first.First.TheVariants as first
 use Rattle.cb_tokens.specs.declared.class.Class.{Class}
 use Rattle.cb_tokens.specs.declared.class.Class.TheVariants as classes
-use Rattle.cb_tokens.specs.Forms.{is_white, is_line_feed, is_name_start, is_name_byte, is_quote, is_identifier, is_number, is_number_rest, is_quoted, closes, is_prefix_letter, is_character, is_string, is_punctuator, punctuators, is_unclosed, stays_unclosed, is_stray, is_white_run, begins_with, ends_comment, is_comment, is_open_comment, has_comment_end, fits}
+use Rattle.cb_tokens.specs.Forms.{is_white, is_line_feed, is_name_start, is_name_byte, is_quote, is_identifier, is_prefix_letter, is_punctuator, punctuators, is_unclosed, stays_unclosed, is_stray, is_white_run, begins_with, is_open_comment, fits}
 use Rattle.cb_tokens.specs.Cut.{StandsFirst}
 use Rattle.cb_tokens.specs.Classes.{class_of, BeginsIn}
-use Rattle.cb_tokens.specs.Scan.{IsLongest, EndsQuote, EndsComment}
-use Rattle.cb_tokens.proofs.Longest.{AreWithin}
+use Rattle.cb_tokens.specs.Scan.{IsLongest}
 use Rattle.cb_tokens.proofs.Prefixes.{prefix_yes, all_prefix, prefix_most, prefix_within}
-use Rattle.cb_tokens.proofs.Punctuators.{of_punctuators, among}
-use Rattle.cb_tokens.proofs.Heads.{kinds, Each, IsMost, begins_first, stands}
+use Rattle.cb_tokens.proofs.Punctuators.{among}
+use Rattle.cb_tokens.proofs.Heads.{IsMost, stands}
 
 -- no longer punctuator begins with the byte
 pub alone : ℕ → Bool
@@ -149,12 +148,13 @@ line_end_stands [] b = absurd (omega (arith, b.some))
 line_end_stands (x ∷ xs) b =
     let feed : x ≡ 10 = eqb-true x 10 (fact_of classes.LineFeed (x ∷ xs) b) in
     stands classes.LineFeed (x ∷ xs) LineEnd 1 b (closed classes.LineFeed (x ∷ xs) b refl) (omega arith)
-    ((bytes_eq-Decides (x ∷ []) (10 ∷ [])).1 (ap (λ v. v ∷ []) feed))
-    ( λ m le h.
-        let e = (bytes_eq-Decides (take m (x ∷ xs)) (10 ∷ [])).0 h in
-        let one : length (take m (x ∷ xs)) ≡ 1 = ap length e in
-        omega (arith, length-take-le m (x ∷ xs) le),
-      tt )
+    ((bytes_eq-Decides (x ∷ []) (10 ∷ [])).1 (ap (λ v. v ∷ []) feed)) (
+      λ m le h.
+          let e = (bytes_eq-Decides (take m (x ∷ xs)) (10 ∷ [])).0 h in
+          let one : length (take m (x ∷ xs)) ≡ 1 = ap length e in
+          omega (arith, length-take-le m (x ∷ xs) le),
+      tt,
+    )
 
 -- a punctuator of one byte
 pub operator_stands : (xs : List ℕ) (n : ℕ) → BeginsIn classes.Operator xs → IsLongest is_punctuator xs n → StandsFirst xs (first.Piece (Token Punct) n)
@@ -167,13 +167,14 @@ unfolding fact alone is_slash fits is_punctuator
 single_stands [] b = absurd (omega (arith, b.some))
 single_stands (x ∷ xs) b =
     let parts = and_parts (is_punctuator (x ∷ [])) (alone x) (fact_of classes.Single (x ∷ xs) b) in
-    stands classes.Single (x ∷ xs) (Token Punct) 1 b (closed classes.Single (x ∷ xs) b refl) (omega arith) parts.0
-    (most1 (Token Punct) x xs 0
-      (λ m le h.
-        let one = or_cases (not (x == x)) (leb (length (x ∷ take m xs)) 1) (among (λ p. not (get_or p 0 0 == x) || leb (length p) 1) (x ∷ take m xs) punctuators parts.1 h) in
-        ⊎_elim (λ e. absurd (both_ways (x == x) (not-true (x == x) e) (eq-eqb x x refl)))
-        (λ e. omega (arith, leb-true (length (x ∷ take m xs)) 1 e, length-take-le m xs le)) one),
-     tt)
+    stands classes.Single (x ∷ xs) (Token Punct) 1 b (closed classes.Single (x ∷ xs) b refl) (omega arith) parts.0 (
+      most1 (Token Punct) x xs 0
+          (λ m le h.
+          let one = or_cases (not (x == x)) (leb (length (x ∷ take m xs)) 1) (among (λ p. not (get_or p 0 0 == x) || leb (length p) 1) (x ∷ take m xs) punctuators parts.1 h) in
+          ⊎_elim (λ e. absurd (both_ways (x == x) (not-true (x == x) e) (eq-eqb x x refl)))
+          (λ e. omega (arith, leb-true (length (x ∷ take m xs)) 1 e, length-take-le m xs le)) one),
+      tt,
+    )
 
 -- a byte by itself
 no_unclosed : (x : ℕ) (xs : List ℕ) → is_quote x ≡ false → is_unclosed (x ∷ xs) ≡ false
@@ -193,9 +194,10 @@ stray_stands (x ∷ xs) b =
     let parts = and_parts (is_stray (x ∷ [])) (not (is_quote x)) (fact_of classes.Stray (x ∷ xs) b) in
     let other = not-true (is_quote x) parts.1 in
     stands classes.Stray (x ∷ xs) (Token Other) 1 b (closed classes.Stray (x ∷ xs) b refl) (omega arith)
-    (or_right (is_unclosed (x ∷ [])) (is_stray (x ∷ [])) parts.0)
-    (most1 (Token Other) x xs 0
-      (λ m le h.
-        ⊎_elim (λ e. absurd (both_ways (is_unclosed (x ∷ take m xs)) (no_unclosed x (take m xs) other) e)) (one_stray x xs m le)
-        (or_cases (is_unclosed (x ∷ take m xs)) (is_stray (x ∷ take m xs)) h)),
-     tt)
+    (or_right (is_unclosed (x ∷ [])) (is_stray (x ∷ [])) parts.0) (
+      most1 (Token Other) x xs 0
+          (λ m le h.
+          ⊎_elim (λ e. absurd (both_ways (is_unclosed (x ∷ take m xs)) (no_unclosed x (take m xs) other) e)) (one_stray x xs m le)
+          (or_cases (is_unclosed (x ∷ take m xs)) (is_stray (x ∷ take m xs)) h)),
+      tt,
+    )

@@ -1,6 +1,6 @@
 -- The end of a block comment, a byte at a time.
-use Rattle.std.proofs.Common.{◌≡◌, ℕ, suc, zero, ◌+◌, ◌<◌, ◌≤◌, ◌==◌, Bool, true, false, cond, ◌&&◌, Option, Some, None, List, [], ◌∷◌, length, get_or, take, drop, zero-add, add-zero, length-take-le, sym, refl, ap, ◌∙◌, subst, arith, ⊎_elim}
-use Rattle.std.proofs.lemmas.Bool.{false≢true, both_ways, eqb-true, eqb-false, and_parts, and_right, cases_lt, cond-false}
+use Rattle.std.proofs.Common.{◌≡◌, ℕ, suc, zero, ◌+◌, ◌<◌, ◌≤◌, ◌==◌, true, false, ◌&&◌, Option, Some, None, List, [], ◌∷◌, length, get_or, take, drop, zero-add, add-zero, length-take-le, sym, refl, ap, ◌∙◌, subst, arith, ⊎_elim}
+use Rattle.std.proofs.lemmas.Bool.{eqb-true, and_parts, and_right, cases_lt, cond-false}
 use Rattle.std.proofs.lemmas.List.{drop_all, get_or_past}
 use Rattle.cb_tokens.specs.Forms.{begins_with, ends_comment, has_comment_end}
 use Rattle.cb_tokens.specs.Scan.{IsLongest, EndsComment}
@@ -83,9 +83,9 @@ ahead_here xs n h e ahead =
     let star : get_or xs n 0 ≡ 42 = eqb-true (get_or xs n 0) 42 parts.0 in
     let slash : get_or xs (n + 1) 0 ≡ 47 = eqb-true (get_or xs (n + 1) 0) 47 parts.1 in
     let room : n + 1 < length xs =
-        ⊎_elim (λ k. k) (λ k. let past : 0 ≡ 47 = sym (get_or_past xs (n + 1) 0 k) ∙ slash in absurd (omega arith)) (cases_lt (n + 1) (length xs)) in
+    ⊎_elim (λ k. k) (λ k. let past : 0 ≡ 47 = sym (get_or_past xs (n + 1) 0 k) ∙ slash in absurd (omega arith)) (cases_lt (n + 1) (length xs)) in
     let opened : drop n xs ≡ 42 ∷ 47 ∷ drop ((n + 1) + 1) xs =
-        split_at xs n h ∙ ap (λ v. v ∷ drop (n + 1) xs) star ∙ ap (λ ys. 42 ∷ ys) (split_at xs (n + 1) room ∙ ap (λ v. v ∷ drop ((n + 1) + 1) xs) slash) in
+    split_at xs n h ∙ ap (λ v. v ∷ drop (n + 1) xs) star ∙ ap (λ ys. 42 ∷ ys) (split_at xs (n + 1) room ∙ ap (λ v. v ∷ drop ((n + 1) + 1) xs) slash) in
     ahead (Some 2) (subst (λ ys. EndsComment ys (Some 2)) (sym opened) (ends_here (drop ((n + 1) + 1) xs)))
 
 none_left : has_comment_end [] ≡ false

@@ -1,26 +1,20 @@
 -- What stands first where several forms begin alike.
-use Rattle.std.proofs.Common.{◌≡◌, ℕ, suc, zero, ◌+◌, ◌<◌, ◌≤◌, ◌==◌, Bool, true, false, not, cond, ◌&&◌, ◌||◌, Option, Some, None, List, [], ◌∷◌, length, get_or, take, drop, leb, eq-eqb, ne_eqb, length-take-le, length-drop, one-add, add-one, sym, refl, ap, ◌∙◌, subst, arith, ⊎_elim}
-use Rattle.std.specs.List.{list_all, list_any, prefix_len}
+use Rattle.std.proofs.Common.{◌≡◌, ℕ, suc, zero, ◌+◌, ◌<◌, ◌≤◌, ◌==◌, true, false, not, ◌&&◌, ◌||◌, List, [], ◌∷◌, length, get_or, take, drop, leb, eq-eqb, add-one, sym, refl, ap, ◌∙◌, subst, arith, ⊎_elim}
 use Rattle.std.specs.Char.{is_ascii_digit}
-use Rattle.std.proofs.lemmas.Bool.{false≢true, both_ways, and_parts, and_from, and_left, or_cases, or_left, or_right, not-true, eqb-true, leb-true, cases_Bool, false_from_ne_true, not_from_false}
-use Rattle.cb_tokens.specs.declared.token.TokenKind.TheVariants.{Identifier, Number, Char, Str, Punct, Other}
-use Rattle.cb_tokens.specs.declared.token.PieceKind.{PieceKind}
-use Rattle.cb_tokens.specs.declared.token.PieceKind.TheVariants.{White, Comment, LineEnd, Token}
+use Rattle.std.proofs.lemmas.Bool.{false≢true, both_ways, and_parts, and_from, or_cases, or_left, or_right, eqb-true, leb-true}
+use Rattle.cb_tokens.specs.declared.token.TokenKind.TheVariants.{Number, Punct}
+use Rattle.cb_tokens.specs.declared.token.PieceKind.TheVariants.{Token}
 use Rattle.cb_tokens.specs.declared.first.First.TheVariants as first
 use Rattle.cb_tokens.specs.declared.class.Class.TheVariants as classes
-use Rattle.cb_tokens.specs.declared.quote.QuoteEnd.{QuoteEnd}
-use Rattle.cb_tokens.specs.declared.quote.QuoteEnd.TheVariants.{Closed, Unclosed}
-use Rattle.cb_tokens.specs.Forms.{is_white, is_line_feed, is_name_start, is_name_byte, is_quote, is_identifier, is_number, is_number_rest, is_quoted, closes, is_prefix_letter, is_character, is_string, is_punctuator, punctuators, is_unclosed, stays_unclosed, is_stray, begins_with, ends_comment, is_comment, is_open_comment, has_comment_end, fits}
+use Rattle.cb_tokens.specs.Forms.{is_name_start, is_name_byte, is_number, is_number_rest, is_punctuator, punctuators, fits}
 use Rattle.cb_tokens.specs.Cut.{StandsFirst}
 use Rattle.cb_tokens.specs.Classes.{BeginsIn}
-use Rattle.cb_tokens.specs.Scan.{IsLongest, HasNone, EndsQuote, EndsComment, quoted_kind, prefix_before_quote}
+use Rattle.cb_tokens.specs.Scan.{IsLongest}
 use Rattle.cb_tokens.proofs.Longest.{AreWithin}
 use Rattle.cb_tokens.proofs.Numbers.{name_continues}
-use Rattle.cb_tokens.proofs.Quotes.{quote_cases}
-use Rattle.cb_tokens.proofs.Prefixes.{prefix_yes, all_prefix, prefix_most, prefix_within}
 use Rattle.cb_tokens.proofs.Punctuators.{of_punctuators}
 use Rattle.cb_tokens.proofs.Heads.{IsMost, stands}
-use Rattle.cb_tokens.proofs.Arms.{fact, fact_of, is_slash, closed, no_slash_closed, most1, most2, longest_name}
+use Rattle.cb_tokens.proofs.Arms.{fact, fact_of, is_slash, closed, most1}
 
 -- a number
 number_most : (d : ℕ) (ys : List ℕ) (r : ℕ) → IsLongest (is_number_rest d) ys r → AreWithin is_number (d ∷ ys) (suc r)
@@ -77,11 +71,11 @@ point_number_stands (d ∷ e ∷ zs) r b h l =
     let point : d ≡ 46 = eqb-true d 46 (fact_of classes.Point (d ∷ e ∷ zs) b) in
     let goes = digit_goes d e zs r h l in
     let lead : (is_ascii_digit d || ((d == 46) && is_ascii_digit (get_or (take r (e ∷ zs)) 0 0))) ≡ true =
-        or_right (is_ascii_digit d) ((d == 46) && is_ascii_digit (get_or (take r (e ∷ zs)) 0 0)) (and_from (d == 46) (is_ascii_digit (get_or (take r (e ∷ zs)) 0 0)) (eq-eqb d 46 point) (ap is_ascii_digit (first_taken e zs r goes) ∙ h)) in
+    or_right (is_ascii_digit d) ((d == 46) && is_ascii_digit (get_or (take r (e ∷ zs)) 0 0)) (and_from (d == 46) (is_ascii_digit (get_or (take r (e ∷ zs)) 0 0)) (eq-eqb d 46 point) (ap is_ascii_digit (first_taken e zs r goes) ∙ h)) in
     let n = longest_number d (e ∷ zs) r lead l in
     subst (λ k. StandsFirst (d ∷ e ∷ zs) (first.Piece (Token Number) k)) (sym (add-one r))
     (stands classes.Point (d ∷ e ∷ zs) (Token Number) (suc r) b (closed classes.Point (d ∷ e ∷ zs) b refl) n.within n.holds
-      (n.longest, (most1 (Token Punct) d (e ∷ zs) r (λ m le p. let none = point_alone e zs m h le (subst (λ v. is_punctuator (v ∷ take m (e ∷ zs)) ≡ true) point p) in omega arith), tt)))
+    (n.longest, (most1 (Token Punct) d (e ∷ zs) r (λ m le p. let none = point_alone e zs m h le (subst (λ v. is_punctuator (v ∷ take m (e ∷ zs)) ≡ true) point p) in omega arith), tt)))
 
 -- a point without a digit
 no_digit : (ys : List ℕ) (m : ℕ) → is_ascii_digit (get_or ys 0 0) ≡ false → is_ascii_digit (get_or (take m ys) 0 0) ≡ false
@@ -106,3 +100,22 @@ point_stands (d ∷ ys) n b h l =
     let point : d ≡ 46 = eqb-true d 46 (fact_of classes.Point (d ∷ ys) b) in
     stands classes.Point (d ∷ ys) (Token Punct) n b (closed classes.Point (d ∷ ys) b refl) l.within l.holds
     (never d ys n point h, (l.longest, tt))
+
+-- a punctuator of one byte stands first
+first_taken_one : (xs : List ℕ) → 0 < length xs → take 1 xs ≡ get_or xs 0 0 ∷ []
+first_taken_one [] some = absurd (omega arith)
+first_taken_one (x ∷ xs) some = refl
+
+pub operator_first : (xs : List ℕ) → BeginsIn classes.Operator xs → is_punctuator (take 1 xs) ≡ true
+unfolding fact
+operator_first xs b = ap is_punctuator (first_taken_one xs b.some) ∙ fact_of classes.Operator xs b
+
+pub point_first : (xs : List ℕ) → BeginsIn classes.Point xs → is_punctuator (take 1 xs) ≡ true
+unfolding fact is_punctuator punctuators
+point_first xs b =
+    ap is_punctuator (first_taken_one xs b.some) ∙ ap (λ v. is_punctuator (v ∷ [])) (eqb-true (get_or xs 0 0) 46 (fact_of classes.Point xs b))
+
+pub slash_first : (xs : List ℕ) → BeginsIn classes.Slash xs → is_punctuator (take 1 xs) ≡ true
+unfolding fact is_punctuator punctuators
+slash_first xs b =
+    ap is_punctuator (first_taken_one xs b.some) ∙ ap (λ v. is_punctuator (v ∷ [])) (eqb-true (get_or xs 0 0) 47 (fact_of classes.Slash xs b))

@@ -1,6 +1,6 @@
 -- Numbers, a byte at a time.
-use Rattle.std.proofs.Common.{◌≡◌, ℕ, suc, zero, ◌+◌, ◌<◌, ◌≤◌, ◌==◌, Bool, true, false, ◌&&◌, ◌||◌, List, [], ◌∷◌, length, get_or, slice_index, take, drop, zero-add, add-zero, length-drop, sym, refl, ap, ◌∙◌, subst, arith, ◌⊎◌, inl, inr, ⊎_elim}
-use Rattle.std.proofs.lemmas.Bool.{false≢true, and_parts, and_from, or_cases, or_left, or_right, cases_Bool, both_ways}
+use Rattle.std.proofs.Common.{◌≡◌, ℕ, suc, zero, ◌+◌, ◌<◌, ◌≤◌, ◌==◌, Bool, true, false, ◌&&◌, ◌||◌, List, [], ◌∷◌, length, get_or, take, drop, zero-add, add-zero, length-drop, sym, refl, ap, ◌∙◌, subst, arith, ◌⊎◌, inl, inr, ⊎_elim}
+use Rattle.std.proofs.lemmas.Bool.{false≢true, and_parts, and_from, both_ways}
 use Rattle.cb_tokens.proofs.Longest.{split_at, head_at, counts_on}
 use Rattle.cb_tokens.specs.Forms.{is_name_start, is_name_byte, continues_number, is_number_rest}
 use Rattle.cb_tokens.specs.Scan.{IsLongest}
@@ -45,7 +45,7 @@ zero_counts : (before b after : ℕ) → continues_number before b 0 ≡ true �
 zero_counts before b after h =
     parts before b after
     ∙ without (freely before b) ((b == 39) && is_name_byte before) (is_name_byte after)
-      (sym (parts before b 0 ∙ ap (λ v. freely before b || ((b == 39) && is_name_byte before) && v) zero_is_no_name) ∙ h)
+    (sym (parts before b 0 ∙ ap (λ v. freely before b || ((b == 39) && is_name_byte before) && v) zero_is_no_name) ∙ h)
 
 -- one byte of a name is a prefix that goes on
 one_goes : (b c : ℕ) (cs : List ℕ) (r : ℕ) → is_name_byte c ≡ true → IsLongest (is_number_rest b) (c ∷ cs) r → 1 ≤ r
@@ -113,5 +113,5 @@ pub ahead_end : (before last : ℕ) (xs : List ℕ) (n : ℕ) → (n < length xs
 ahead_end before last xs n c ahead =
     let at : (i k : ℕ) → n + i ≡ k → get_or (drop n xs) i 0 ≡ get_or xs k 0 = λ i k e. head_at xs n i ∙ ap (λ j. get_or xs j 0) e in
     let none : 0 < length (drop n xs) → continues_number last (get_or (drop n xs) 0 0) (get_or (drop n xs) 1 0) ≡ false =
-        λ some. ap (λ v. continues_number last v (get_or (drop n xs) 1 0)) (at 0 n (add-zero n)) ∙ ap (λ v. continues_number last (get_or xs n 0) v) (at 1 (n + 1) refl) ∙ c (omega (arith, length-drop n xs)) in
+    λ some. ap (λ v. continues_number last v (get_or (drop n xs) 1 0)) (at 0 n (add-zero n)) ∙ ap (λ v. continues_number last (get_or xs n 0) v) (at 1 (n + 1) refl) ∙ c (omega (arith, length-drop n xs)) in
     subst (λ k. IsLongest (is_number_rest before) xs k) (add-zero n) (ahead 0 (number_none last (drop n xs) none))

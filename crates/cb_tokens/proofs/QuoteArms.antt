@@ -1,26 +1,25 @@
 -- What stands first at a slash or a quote.
-use Rattle.std.proofs.Common.{◌≡◌, ℕ, suc, zero, ◌+◌, ◌<◌, ◌≤◌, ◌==◌, Bool, true, false, not, cond, ◌&&◌, ◌||◌, Option, Some, None, List, [], ◌∷◌, length, get_or, take, drop, leb, eq-eqb, ne_eqb, length-take-le, length-drop, one-add, add-one, sym, refl, ap, ◌∙◌, subst, arith, ⊎_elim}
-use Rattle.std.specs.List.{list_all, list_any, prefix_len}
+use Rattle.std.proofs.Common.{◌≡◌, ℕ, suc, zero, ◌+◌, ◌≤◌, ◌==◌, Bool, true, false, not, ◌&&◌, ◌||◌, Option, Some, None, List, [], ◌∷◌, length, get_or, take, drop, leb, add-one, sym, refl, ap, ◌∙◌, subst, arith, ⊎_elim}
+use Rattle.std.specs.List.{list_all, prefix_len}
 use Rattle.std.specs.Char.{is_ascii_digit}
-use Rattle.std.proofs.lemmas.Bool.{false≢true, both_ways, and_parts, and_from, and_left, or_cases, or_left, or_right, not-true, eqb-true, leb-true, cases_Bool, false_from_ne_true, not_from_false}
-use Rattle.cb_tokens.specs.declared.token.TokenKind.TheVariants.{Identifier, Number, Char, Str, Punct, Other}
+use Rattle.std.proofs.lemmas.Bool.{both_ways, or_cases, eqb-true, leb-true}
+use Rattle.cb_tokens.specs.declared.token.TokenKind.TheVariants.{Char, Str, Punct, Other}
 use Rattle.cb_tokens.specs.declared.token.PieceKind.{PieceKind}
-use Rattle.cb_tokens.specs.declared.token.PieceKind.TheVariants.{White, Comment, LineEnd, Token}
+use Rattle.cb_tokens.specs.declared.token.PieceKind.TheVariants.{Comment, Token}
 use Rattle.cb_tokens.specs.declared.first.First.TheVariants as first
 use Rattle.cb_tokens.specs.declared.class.Class.TheVariants as classes
 use Rattle.cb_tokens.specs.declared.quote.QuoteEnd.{QuoteEnd}
 use Rattle.cb_tokens.specs.declared.quote.QuoteEnd.TheVariants.{Closed, Unclosed}
-use Rattle.cb_tokens.specs.Forms.{is_white, is_line_feed, is_name_start, is_name_byte, is_quote, is_identifier, is_number, is_number_rest, is_quoted, closes, is_prefix_letter, is_character, is_string, is_punctuator, punctuators, is_unclosed, stays_unclosed, is_stray, begins_with, ends_comment, is_comment, is_open_comment, has_comment_end, fits}
+use Rattle.cb_tokens.specs.Forms.{is_white, is_line_feed, is_name_start, is_quote, is_quoted, closes, is_prefix_letter, is_character, is_string, is_punctuator, punctuators, is_unclosed, stays_unclosed, is_stray, begins_with, ends_comment, is_comment, is_open_comment, has_comment_end, fits}
 use Rattle.cb_tokens.specs.Cut.{StandsFirst}
 use Rattle.cb_tokens.specs.Classes.{BeginsIn}
-use Rattle.cb_tokens.specs.Scan.{IsLongest, HasNone, EndsQuote, EndsComment, quoted_kind, prefix_before_quote}
+use Rattle.cb_tokens.specs.Scan.{IsLongest, EndsQuote, EndsComment, quoted_kind}
 use Rattle.cb_tokens.proofs.Longest.{AreWithin}
-use Rattle.cb_tokens.proofs.Numbers.{name_continues}
 use Rattle.cb_tokens.proofs.Quotes.{quote_cases}
 use Rattle.cb_tokens.proofs.Prefixes.{prefix_yes, all_prefix, prefix_most, prefix_within}
 use Rattle.cb_tokens.proofs.Punctuators.{of_punctuators}
 use Rattle.cb_tokens.proofs.Heads.{IsMost, stands}
-use Rattle.cb_tokens.proofs.Arms.{fact, fact_of, is_slash, closed, no_slash_closed, most1, most2, longest_name}
+use Rattle.cb_tokens.proofs.Arms.{fact, fact_of, is_slash, closed, most1, most2}
 
 or_false : (x y : Bool) → y ≡ false → (x || y) ≡ x
 or_false true y h = refl
@@ -89,8 +88,8 @@ block_stands (x ∷ y ∷ zs) (Some n) b e h =
     subst (λ ys. StandsFirst ys (first.Piece Comment (n + 2))) same
     (subst (λ k. StandsFirst (47 ∷ 42 ∷ zs) (first.Piece Comment k)) (two_more n)
     (stands classes.Slash (47 ∷ 42 ∷ zs) Comment (suc (suc n)) (subst (BeginsIn classes.Slash) (sym same) b) (open_block zs ∙ ap not h.1)
-      (let k = h.0.within in omega arith) (block (take n zs) ∙ h.0.holds)
-      (block_most zs n h.0, (slash_alone 42 zs n (λ q. absurd (omega arith)), tt))))
+    (let k = h.0.within in omega arith) (block (take n zs) ∙ h.0.holds)
+    (block_most zs n h.0, (slash_alone 42 zs n (λ q. absurd (omega arith)), tt))))
 
 line_most : (zs : List ℕ) → IsMost (47 ∷ 47 ∷ zs) (suc (suc (prefix_len (λ b. not (is_line_feed b)) zs))) Comment
 unfolding fits
@@ -112,8 +111,8 @@ line_stands (x ∷ y ∷ zs) b e =
     subst (λ ys. StandsFirst ys (first.Piece Comment (prefix_len p ys))) same
     (subst (λ k. StandsFirst (47 ∷ 47 ∷ zs) (first.Piece Comment k)) (sym (line_len zs))
     (stands classes.Slash (47 ∷ 47 ∷ zs) Comment (suc (suc (prefix_len p zs))) (subst (BeginsIn classes.Slash) (sym same) b) (open_line zs)
-      (let k = prefix_within p zs in omega arith) (line (take (prefix_len p zs) zs) ∙ all_prefix p zs)
-      (line_most zs, (slash_alone 47 zs (prefix_len p zs) (λ q. absurd (omega arith)), tt))))
+    (let k = prefix_within p zs in omega arith) (line (take (prefix_len p zs) zs) ∙ all_prefix p zs)
+    (line_most zs, (slash_alone 47 zs (prefix_len p zs) (λ q. absurd (omega arith)), tt))))
 
 -- a slash that opens no comment
 no_comment : (y : ℕ) (l : List ℕ) → (y == 42) ≡ false → (y == 47) ≡ false → is_comment (47 ∷ y ∷ l) ≡ false
@@ -184,26 +183,26 @@ unfolding fits is_quote is_slash
 char_stands ys (Closed n) b h =
     subst (λ k. StandsFirst (39 ∷ ys) (first.Piece (Token Char) k)) (sym (add-one n))
     (stands classes.Quote (39 ∷ ys) (Token Char) (suc n) b (closed classes.Quote (39 ∷ ys) b refl) (let k = h.0.within in omega arith)
-      (char_char (take n ys) ∙ h.0.holds)
-      (most1 (Token Char) 39 ys n (λ m le e. h.0.longest m le (sym (char_char (take m ys)) ∙ e)), (none_of (Token Str) 39 ys n (λ m le. string_char (take m ys)), (other_most 39 ys n refl h.1, tt))))
+    (char_char (take n ys) ∙ h.0.holds)
+    (most1 (Token Char) 39 ys n (λ m le e. h.0.longest m le (sym (char_char (take m ys)) ∙ e)), (none_of (Token Str) 39 ys n (λ m le. string_char (take m ys)), (other_most 39 ys n refl h.1, tt))))
 char_stands ys (Unclosed n) b h =
     subst (λ k. StandsFirst (39 ∷ ys) (first.Piece (Token Other) k)) (sym (add-one n))
     (stands classes.Quote (39 ∷ ys) (Token Other) (suc n) b (closed classes.Quote (39 ∷ ys) b refl) (let k = h.0.within in omega arith)
-      (unclosed_other 39 (take n ys) refl ∙ h.0.holds)
-      (none_of (Token Char) 39 ys n (λ m le. char_char (take m ys) ∙ h.1 m le), (none_of (Token Str) 39 ys n (λ m le. string_char (take m ys)), (other_most 39 ys n refl h.0.longest, tt))))
+    (unclosed_other 39 (take n ys) refl ∙ h.0.holds)
+    (none_of (Token Char) 39 ys n (λ m le. char_char (take m ys) ∙ h.1 m le), (none_of (Token Str) 39 ys n (λ m le. string_char (take m ys)), (other_most 39 ys n refl h.0.longest, tt))))
 
 string_stands : (ys : List ℕ) (r : QuoteEnd) → BeginsIn classes.Quote (34 ∷ ys) → EndsQuote 34 ys r → StandsFirst (34 ∷ ys) (quoted 34 r)
 unfolding fits is_quote is_slash
 string_stands ys (Closed n) b h =
     subst (λ k. StandsFirst (34 ∷ ys) (first.Piece (Token Str) k)) (sym (add-one n))
     (stands classes.Quote (34 ∷ ys) (Token Str) (suc n) b (closed classes.Quote (34 ∷ ys) b refl) (let k = h.0.within in omega arith)
-      (string_string (take n ys) ∙ h.0.holds)
-      (none_of (Token Char) 34 ys n (λ m le. char_string (take m ys)), (most1 (Token Str) 34 ys n (λ m le e. h.0.longest m le (sym (string_string (take m ys)) ∙ e)), (other_most 34 ys n refl h.1, tt))))
+    (string_string (take n ys) ∙ h.0.holds)
+    (none_of (Token Char) 34 ys n (λ m le. char_string (take m ys)), (most1 (Token Str) 34 ys n (λ m le e. h.0.longest m le (sym (string_string (take m ys)) ∙ e)), (other_most 34 ys n refl h.1, tt))))
 string_stands ys (Unclosed n) b h =
     subst (λ k. StandsFirst (34 ∷ ys) (first.Piece (Token Other) k)) (sym (add-one n))
     (stands classes.Quote (34 ∷ ys) (Token Other) (suc n) b (closed classes.Quote (34 ∷ ys) b refl) (let k = h.0.within in omega arith)
-      (unclosed_other 34 (take n ys) refl ∙ h.0.holds)
-      (none_of (Token Char) 34 ys n (λ m le. char_string (take m ys)), (none_of (Token Str) 34 ys n (λ m le. string_string (take m ys) ∙ h.1 m le), (other_most 34 ys n refl h.0.longest, tt))))
+    (unclosed_other 34 (take n ys) refl ∙ h.0.holds)
+    (none_of (Token Char) 34 ys n (λ m le. char_string (take m ys)), (none_of (Token Str) 34 ys n (λ m le. string_string (take m ys) ∙ h.1 m le), (other_most 34 ys n refl h.0.longest, tt))))
 
 pub is_quote_first : (xs : List ℕ) → BeginsIn classes.Quote xs → is_quote (get_or xs 0 0) ≡ true
 unfolding fact

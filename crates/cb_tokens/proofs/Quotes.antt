@@ -1,12 +1,12 @@
 -- The end of a quote, a byte at a time.
-use Rattle.std.proofs.Common.{◌≡◌, ℕ, suc, zero, ◌+◌, ◌<◌, ◌≤◌, ◌==◌, Bool, true, false, not, cond, ◌&&◌, ◌||◌, List, [], ◌∷◌, length, get_or, take, drop, ltb, zero-add, add-zero, length-drop, sym, refl, ap, ◌∙◌, subst, arith, ◌⊎◌, inl, inr, ⊎_elim}
-use Rattle.std.proofs.lemmas.Bool.{false≢true, both_ways, or_cases, eqb-true, eq-eqb, lt-ltb, cases_lt, cases_Bool, and_parts, ltb-true, not-true, cond-true, cond-false}
+use Rattle.std.proofs.Common.{◌≡◌, ℕ, suc, zero, ◌+◌, ◌<◌, ◌≤◌, ◌==◌, Bool, true, false, not, cond, ◌&&◌, ◌||◌, List, [], ◌∷◌, length, get_or, take, drop, ltb, zero-add, add-zero, sym, refl, ap, ◌∙◌, subst, arith, ◌⊎◌, inl, inr, ⊎_elim}
+use Rattle.std.proofs.lemmas.Bool.{false≢true, or_cases, eqb-true, eq-eqb, lt-ltb, cases_lt, cases_Bool, and_parts, ltb-true, not-true, cond-true, cond-false}
 use Rattle.std.proofs.lemmas.List.{drop_all}
 use Rattle.cb_tokens.specs.Forms.{is_quote, is_line_feed, closes, stays_unclosed}
-use Rattle.cb_tokens.specs.Scan.{IsLongest, HasNone, EndsQuote, quote_step}
+use Rattle.cb_tokens.specs.Scan.{HasNone, EndsQuote, quote_step}
 use Rattle.cb_tokens.specs.declared.quote.QuoteEnd.{QuoteEnd}
 use Rattle.cb_tokens.specs.declared.quote.QuoteEnd.TheVariants.{Closed, Unclosed}
-use Rattle.cb_tokens.proofs.Longest.{AreWithin, within_on, longest_on, none_on, within_over, longest_over, none_over, split_at, head_at, counts_on}
+use Rattle.cb_tokens.proofs.Longest.{AreWithin, within_on, longest_on, none_on, within_over, longest_over, none_over, split_at}
 
 -- a quote is ' or "
 pub quote_cases : (q : ℕ) → is_quote q ≡ true → (q ≡ 39) ⊎ (q ≡ 34)
@@ -196,7 +196,7 @@ ahead_over : (q : ℕ) (xs : List ℕ) (n : ℕ) → is_quote q ≡ true → n +
 ahead_over q xs n quote h b f ahead r e =
     let two : (n + 1) + 1 ≡ n + 2 = omega arith in
     let opened : drop n xs ≡ 92 ∷ get_or xs (n + 1) 0 ∷ drop (n + 2) xs =
-        split_at xs n (omega arith) ∙ ap (λ v. v ∷ drop (n + 1) xs) b ∙ ap (λ ys. 92 ∷ ys) (split_at xs (n + 1) h ∙ ap (λ k. get_or xs (n + 1) 0 ∷ drop k xs) two) in
+    split_at xs n (omega arith) ∙ ap (λ v. v ∷ drop (n + 1) xs) b ∙ ap (λ ys. 92 ∷ ys) (split_at xs (n + 1) h ∙ ap (λ k. get_or xs (n + 1) 0 ∷ drop k xs) two) in
     subst (EndsQuote q xs) (moved_over n r)
     (ahead (further (further r)) (subst (λ ys. EndsQuote q ys (further (further r))) (sym opened) (ends_over q (get_or xs (n + 1) 0) (drop (n + 2) xs) quote f r e)))
 
@@ -219,16 +219,16 @@ ahead_step q xs n quote h other stays ahead =
     let P : ℕ → Type 0 = λ k. (n + k ≤ length xs) × QuoteAhead q xs (n + k) in
     ⊎_elim
     (λ e.
-        let both = and_parts escapes same e in
-        let parts = and_parts (get_or xs n 0 == 92) (ltb (n + 1) (length xs)) both.0 in
-        let room : n + 1 < length xs = ltb-true (n + 1) (length xs) parts.1 in
-        subst P (sym (cond-true (escapes && same) 2 1 e)) (
-          omega arith,
-          ahead_over q xs n quote room (eqb-true (get_or xs n 0) 92 parts.0) (not-true (is_line_feed (get_or xs (n + 1) 0)) both.1) ahead,
-        ))
+    let both = and_parts escapes same e in
+    let parts = and_parts (get_or xs n 0 == 92) (ltb (n + 1) (length xs)) both.0 in
+    let room : n + 1 < length xs = ltb-true (n + 1) (length xs) parts.1 in
+    subst P (sym (cond-true (escapes && same) 2 1 e)) (
+      omega arith,
+      ahead_over q xs n quote room (eqb-true (get_or xs n 0) 92 parts.0) (not-true (is_line_feed (get_or xs (n + 1) 0)) both.1) ahead,
+    ))
     (λ e.
-        subst P (sym (cond-false (escapes && same) 2 1 e)) (
-          omega arith,
-          ahead_on q xs n quote h (record { other = other; stays = stays; alone = alone_at xs n e }) ahead,
-        ))
+    subst P (sym (cond-false (escapes && same) 2 1 e)) (
+      omega arith,
+      ahead_on q xs n quote h (record { other = other; stays = stays; alone = alone_at xs n e }) ahead,
+    ))
     (cases_Bool (escapes && same))

@@ -30,14 +30,7 @@ pub(crate) enum Class {
 }
 
 /// The class of a byte.
-#[tactic(auto, unfolding(
-    crate::specs::Classes::class_of,
-    crate::specs::Forms::is_white,
-    crate::specs::Forms::is_line_feed,
-    crate::specs::Forms::is_name_start,
-    crate::specs::Forms::is_prefix_letter,
-    crate::specs::Forms::is_quote
-))]
+#[tactic(auto, unfolding(crate::specs::Classes::class_of, crate::specs::Forms::is_white, crate::specs::Forms::is_line_feed, crate::specs::Forms::is_name_start, crate::specs::Forms::is_prefix_letter, crate::specs::Forms::is_quote))]
 pub(crate) fn class_of(byte: u8) -> Class
     ensures { result ≡ class_of byte }
 {
@@ -51,7 +44,8 @@ pub(crate) fn class_of(byte: u8) -> Class
         b'.' => Class::Point,
         b'/' => Class::Slash,
         b'[' | b']' | b'(' | b')' | b'{' | b'}' | b'~' | b'?' | b';' | b',' => Class::Single,
-        b'-' | b'+' | b'&' | b'*' | b'!' | b'%' | b'<' | b'>' | b'^' | b'|' | b':' | b'=' | b'#' => Class::Operator,
+        b'-' | b'+' | b'&' | b'*' | b'!' | b'%' | b'<' | b'>' | b'^' | b'|' | b':' | b'=' | b'#' =>
+            Class::Operator,
         _ => Class::Stray,
     }
 }

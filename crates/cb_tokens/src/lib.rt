@@ -14,7 +14,7 @@ mod runs;
 mod token;
 
 pub use fault::LexFault;
-pub use first::First;
+pub use first::{First, first_piece};
 pub use lexed::Lexed;
 pub use lexing::tokens;
 pub use token::{PieceKind, Token, TokenKind};

@@ -1,5 +1,5 @@
 //! Runs of bytes that are each of one kind.
-ghost use Rattle.std.specs.Prelude.{◌≡◌, not, slice_index};
+ghost use Rattle.std.specs.Prelude.{◌≡◌, ◌≤◌, not, length, drop, slice_index};
 ghost use Rattle.std.specs.List.{prefix_len};
 ghost use Rattle.cb_tokens.specs.Forms.{is_white, is_name_byte, is_line_feed};
 
@@ -9,6 +9,15 @@ pub(crate) fn byte_at(bytes: &[u8], index: usize) -> u8
     ensures { result ≡ slice_index bytes.now index }
 {
     if index < bytes.len() { bytes[index] } else { 0 }
+}
+
+/// The bytes behind so many.
+#[inline]
+pub(crate) fn behind(bytes: &[u8], count: usize) -> &[u8]
+    requires { count ≤ length bytes.now }
+    ensures { result.now ≡ drop count bytes.now }
+{
+    &bytes[count..]
 }
 
 /// Whether it is white.

@@ -1,4 +1,4 @@
-use Rattle.std.proofs.Common.{ℕ, ◌+◌, ◌≤◌, length, sym, ◌∙◌, subst, arith, ne_eqb}
+use Rattle.std.proofs.Common.{ℕ, ◌+◌, ◌≤◌, length, sym, subst, arith, ne_eqb}
 use Rattle.cb_tokens.proofs.Quotes.{QuoteAhead, ahead_start, ahead_closed, ahead_feed, ahead_step, ahead_end}
 use Rattle.cb_tokens.proofs.quote.quote_end.Goals as goal
 
@@ -16,7 +16,7 @@ returns-then-is_line_feed c =
 pub bytes-preserved : goal.bytes-preserved
 bytes-preserved c =
     let P : ℕ → Type 0 =
-        λ k. (c.bytes.n + k ≤ length c.args.bytes.now) × QuoteAhead c.args.quote c.args.bytes.now (c.bytes.n + k) in
+    λ k. (c.bytes.n + k ≤ length c.args.bytes.now) × QuoteAhead c.args.quote c.args.bytes.now (c.bytes.n + k) in
     subst P (sym c.quote_step-n.ensures)
     (ahead_step c.args.quote c.args.bytes.now c.bytes.n c.requires c.bytes-test.true (ne_eqb _ _ c.if-byte-quote.false) (cc) c.bytes.invariant.1)
 
