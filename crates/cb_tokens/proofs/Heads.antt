@@ -16,7 +16,7 @@ use Rattle.cb_tokens.specs.Classes.{class_of, BeginsIn}
 use Rattle.cb_tokens.proofs.Punctuators.{of_punctuators}
 
 -- a piece of the kind may begin with the byte
-start : PieceKind → ℕ → Bool
+unfoldable pub start : PieceKind → ℕ → Bool
 start White b = is_white b
 start Comment b = b == 47
 start LineEnd b = b == 10
@@ -57,7 +57,7 @@ one_of true y z w h = refl
 one_of false true z w h = refl
 one_of false false z w h = h
 
-starts : (k : PieceKind) (b : ℕ) (bs : List ℕ) → fits k (b ∷ bs) ≡ true → start k b ≡ true
+pub starts : (k : PieceKind) (b : ℕ) (bs : List ℕ) → fits k (b ∷ bs) ≡ true → start k b ≡ true
 unfolding start fits is_white_run is_comment is_identifier is_number is_character is_string is_quoted is_unclosed
 starts White b bs h = (and_parts (is_white b) (list_all is_white bs) h).0
 starts Comment b bs h =
@@ -123,10 +123,10 @@ abbrev pub Each : (PieceKind → Type 0) → List PieceKind → Type 0
 Each P [] = Unit {0}
 Each P (k ∷ ks) = P k × Each P ks
 
-holds : PieceKind → List PieceKind → Bool
+pub holds : PieceKind → List PieceKind → Bool
 holds k ks = list_any (λ j. code j == code k) ks
 
-each_at : (P : PieceKind → Type 0) (k : PieceKind) (ks : List PieceKind) → holds k ks ≡ true → Each P ks → P k
+pub each_at : (P : PieceKind → Type 0) (k : PieceKind) (ks : List PieceKind) → holds k ks ≡ true → Each P ks → P k
 unfolding holds
 each_at P k [] h e = absurd (false≢true h)
 each_at P k (j ∷ js) h e =
@@ -152,7 +152,7 @@ implied : (x y : Bool) → (not x || y) ≡ true → x ≡ true → y ≡ true
 implied true y h e = h
 implied false y h e = absurd (false≢true e)
 
-head_kinds : (k : PieceKind) (b : ℕ) → b < 256 → start k b ≡ true → holds k (kinds (class_of b)) ≡ true
+pub head_kinds : (k : PieceKind) (b : ℕ) → b < 256 → start k b ≡ true → holds k (kinds (class_of b)) ≡ true
 unfolding test
 head_kinds k b lt h = implied (start k b) (holds k (kinds (class_of b))) (agree_below_at (test k) (λ _. true) 256 b (table k) lt) h
 

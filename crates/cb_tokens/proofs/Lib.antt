@@ -9,3 +9,7 @@ pub mod Arms
 pub mod MoreArms
 pub mod QuoteArms
 pub mod PrefixArms
+pub mod Cutting
+pub mod Reading
+pub mod Lines
+pub mod Alike

@@ -8,7 +8,7 @@ use Rattle.cb_tokens.specs.declared.token.TokenKind.{TokenKind}
 use Rattle.cb_tokens.specs.declared.token.PieceKind.{PieceKind}
 use Rattle.cb_tokens.specs.declared.token.PieceKind.TheVariants as kinds
 use Rattle.cb_tokens.specs.declared.token.Token.{Token}
-use Rattle.cb_tokens.specs.Cut.{Piece, IsCut}
+use Rattle.cb_tokens.specs.Cut.{Piece, IsCut, HasOpenComment}
 
 -- a logical line: its tokens, and the set of the physical lines on which a byte of one of them stands
 pub record Line : Type 0 where
@@ -89,3 +89,9 @@ AreLinesOf ms lines = (ps : List Piece) × IsCut ms ps × (lines ≡ logical_lin
 -- the marks are one token of the kind and nothing else
 abbrev pub IsOneToken : List Mark → TokenKind → Type 0
 IsOneToken ms kind = (p : Piece) × IsCut ms (p ∷ []) × (p.kind ≡ kinds.Token kind)
+
+-- the marks begin with a logical line of these pieces: any cut of the rest goes on from it to a cut of the marks, and a
+-- comment that is open in the rest is open in the marks (own)
+pub record BeginsWithLine (ms : List Mark) (part : List Piece) (rest : List Mark) : Type 0 where
+  pub cut : (ps : List Piece) → IsCut rest ps → (qs : List Piece) × IsCut ms qs × (split_lines qs ≡ part ∷ split_lines ps)
+  pub open_comment : (line : ℕ) → HasOpenComment rest line → HasOpenComment ms line
