@@ -13,3 +13,4 @@ pub mod Cutting
 pub mod Reading
 pub mod Lines
 pub mod Alike
+pub mod OneCut

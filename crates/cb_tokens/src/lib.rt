@@ -5,6 +5,7 @@ mod class;
 mod comment;
 mod fault;
 mod first;
+mod laws;
 mod lexed;
 mod lexing;
 mod number;
@@ -15,6 +16,7 @@ mod token;
 
 pub use fault::LexFault;
 pub use first::{First, first_piece};
+pub use laws::one_cut;
 pub use lexed::Lexed;
 pub use lexing::tokens;
 pub use token::{PieceKind, Token, TokenKind};
