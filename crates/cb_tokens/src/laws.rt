@@ -11,6 +11,6 @@ pub fn one_cut()
     ensures cut { (ms : List Mark) (ps qs : List Piece) → IsCut ms ps → IsCut ms qs → ps ≡ qs }
     ensures lines { (ms : List Mark) (a b : List Line) → AreLinesOf ms a → AreLinesOf ms b → a ≡ b }
     ensures no_cut { (ms : List Mark) (ps : List Piece) (line : ℕ) → IsCut ms ps → HasOpenComment ms line → ⊥ }
-    ensures open_line { (ms : List Mark) (a b : ℕ) → HasOpenComment ms a → HasOpenComment ms b → a ≡ b }
+    ensures line { (ms : List Mark) (a b : ℕ) → HasOpenComment ms a → HasOpenComment ms b → a ≡ b }
 {
 }
