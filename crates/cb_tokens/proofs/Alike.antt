@@ -52,9 +52,9 @@ low (Token Char) b h =
 low (Token Str) b h =
     inr
     (⊎_elim
-      (λ d. ⊎_elim (λ e. let f = eqb-true b 34 e in omega arith) (λ e. (letter_range b e).1) (or_cases (b == 34) (is_prefix_letter b) d))
-      (λ e. let f = eqb-true b 117 e in omega arith)
-      (or_cases ((b == 34) || is_prefix_letter b) (b == 117) h))
+    (λ d. ⊎_elim (λ e. let f = eqb-true b 34 e in omega arith) (λ e. (letter_range b e).1) (or_cases (b == 34) (is_prefix_letter b) d))
+    (λ e. let f = eqb-true b 117 e in omega arith)
+    (or_cases ((b == 34) || is_prefix_letter b) (b == 117) h))
 low (Token Punct) b h = inr (punct_low b h)
 low (Token Other) b h =
     inr (⊎_elim (λ e. let f = quote_range b e in omega arith) (stray_low b) (or_cases (is_quote b) (is_stray (b ∷ [])) h))
@@ -85,14 +85,14 @@ string_parts b bs h =
     let third : Bool = (b == 117) && (get_or bs 0 0 == 56) && is_quoted 34 (drop 1 bs) in
     ⊎_elim
     (λ d.
-      ⊎_elim (λ e. let p = and_parts (b == 34) (closes 34 bs) e in inl (eqb-true b 34 p.0, p.1))
-      (λ e. let p = and_parts (is_prefix_letter b) (is_quoted 34 bs) e in let q = quoted_head 34 bs p.1 in inr (inl (p.0, q.0, q.1)))
-      (or_cases first second d))
+    ⊎_elim (λ e. let p = and_parts (b == 34) (closes 34 bs) e in inl (eqb-true b 34 p.0, p.1))
+    (λ e. let p = and_parts (is_prefix_letter b) (is_quoted 34 bs) e in let q = quoted_head 34 bs p.1 in inr (inl (p.0, q.0, q.1)))
+    (or_cases first second d))
     (λ e.
-      let p = and_parts ((b == 117) && (get_or bs 0 0 == 56)) (is_quoted 34 (drop 1 bs)) e in
-      let r = and_parts (b == 117) (get_or bs 0 0 == 56) p.0 in
-      let q = quoted_head 34 (drop 1 bs) p.1 in
-      inr (inr (eqb-true b 117 r.0, eqb-true (get_or bs 0 0) 56 r.1, q.0, q.1)))
+    let p = and_parts ((b == 117) && (get_or bs 0 0 == 56)) (is_quoted 34 (drop 1 bs)) e in
+    let r = and_parts (b == 117) (get_or bs 0 0 == 56) p.0 in
+    let q = quoted_head 34 (drop 1 bs) p.1 in
+    inr (inr (eqb-true b 117 r.0, eqb-true (get_or bs 0 0) 56 r.1, q.0, q.1)))
     (or_cases (first || second) third h)
 
 -- a name has no quotes
@@ -138,9 +138,9 @@ char_string : (b : ℕ) (bs : List ℕ) → is_character (b ∷ bs) ≡ true →
 char_string b bs h c =
     ⊎_elim
     (λ x.
-      ⊎_elim (λ e. omega arith) (λ d. ⊎_elim (λ e. let r = letter_range b e.0 in omega arith) (λ e. omega arith) d) (string_parts b bs c))
+    ⊎_elim (λ e. omega arith) (λ d. ⊎_elim (λ e. let r = letter_range b e.0 in omega arith) (λ e. omega arith) d) (string_parts b bs c))
     (λ x.
-      ⊎_elim (λ e. let r = letter_range b x.0 in omega arith) (λ d. ⊎_elim (λ e. omega arith) (λ e. omega arith) d) (string_parts b bs c))
+    ⊎_elim (λ e. let r = letter_range b x.0 in omega arith) (λ d. ⊎_elim (λ e. omega arith) (λ e. omega arith) d) (string_parts b bs c))
     (char_parts b bs h)
 
 -- a number has a digit where a punctuator has none
@@ -166,8 +166,8 @@ number_punct b bs h c =
     let p = and_parts (is_ascii_digit b || ((b == 46) && is_ascii_digit (get_or bs 0 0))) (is_number_rest b bs) h in
     ⊎_elim (digit_first b bs c)
     (λ e.
-      let q = and_parts (b == 46) (is_ascii_digit (get_or bs 0 0)) e in
-      no_digit_left bs (point_second bs (subst (λ v. is_punctuator (v ∷ bs) ≡ true) (eqb-true b 46 q.0) c)) q.1)
+    let q = and_parts (b == 46) (is_ascii_digit (get_or bs 0 0)) e in
+    no_digit_left bs (point_second bs (subst (λ v. is_punctuator (v ∷ bs) ≡ true) (eqb-true b 46 q.0) c)) q.1)
     (or_cases (is_ascii_digit b) ((b == 46) && is_ascii_digit (get_or bs 0 0)) p.0)
 
 -- a comment begins as no punctuator does
@@ -245,7 +245,7 @@ string_other : (b : ℕ) (bs : List ℕ) → is_string (b ∷ bs) ≡ true → (
 string_other b bs h o =
     ⊎_elim (λ e. closed_other 34 bs quote_34 e.1 (subst (λ v. (is_unclosed (v ∷ bs) || is_stray (v ∷ bs)) ≡ true) e.0 o))
     (λ d.
-      ⊎_elim (λ e. letter_other b bs (letter_range b e.0).0 e.1 o) (λ e. letter_other b bs (omega (arith, e.0)) (second_left bs e.2) o) d)
+    ⊎_elim (λ e. letter_other b bs (letter_range b e.0).0 e.1 o) (λ e. letter_other b bs (omega (arith, e.0)) (second_left bs e.2) o) d)
     (string_parts b bs h)
 
 -- of two kinds of a list of kinds only one holds of the bytes
@@ -263,8 +263,10 @@ apart classes.LineFeed b bs = ((λ x y. refl, tt), tt)
 apart classes.Name b bs = ((λ x y. refl, tt), tt)
 apart classes.Prefix b bs = (
   (λ x y. refl, (λ x y. absurd (name_char b bs x y), (λ x y. absurd (name_string b bs x y), tt))),
-  ((λ x y. absurd (name_char b bs y x), (λ x y. refl, (λ x y. absurd (char_string b bs x y), tt))),
-   ((λ x y. absurd (name_string b bs y x), (λ x y. absurd (char_string b bs y x), (λ x y. refl, tt))), tt)),
+  (
+    (λ x y. absurd (name_char b bs y x), (λ x y. refl, (λ x y. absurd (char_string b bs x y), tt))),
+    ((λ x y. absurd (name_string b bs y x), (λ x y. absurd (char_string b bs y x), (λ x y. refl, tt))), tt),
+  ),
 )
 apart classes.Digit b bs = ((λ x y. refl, tt), tt)
 apart classes.Point b bs = (
@@ -277,8 +279,10 @@ apart classes.Slash b bs = (
 )
 apart classes.Quote b bs = (
   (λ x y. refl, (λ x y. absurd (char_string b bs x y), (λ x y. absurd (char_other b bs x y), tt))),
-  ((λ x y. absurd (char_string b bs y x), (λ x y. refl, (λ x y. absurd (string_other b bs x y), tt))),
-   ((λ x y. absurd (char_other b bs y x), (λ x y. absurd (string_other b bs y x), (λ x y. refl, tt))), tt)),
+  (
+    (λ x y. absurd (char_string b bs y x), (λ x y. refl, (λ x y. absurd (string_other b bs x y), tt))),
+    ((λ x y. absurd (char_other b bs y x), (λ x y. absurd (string_other b bs y x), (λ x y. refl, tt))), tt),
+  ),
 )
 apart classes.Single b bs = ((λ x y. refl, tt), tt)
 apart classes.Operator b bs = ((λ x y. refl, tt), tt)
@@ -291,5 +295,5 @@ alike k j (b ∷ bs) h i =
     let s = starts k b bs h in
     let t = starts j b bs i in
     let here : b < 128 → k ≡ j =
-        λ m. from_apart (b ∷ bs) (kinds (class_of b)) k j (apart (class_of b) b bs) (head_kinds k b (omega arith) s) (head_kinds j b (omega arith) t) h i in
+    λ m. from_apart (b ∷ bs) (kinds (class_of b)) k j (apart (class_of b) b bs) (head_kinds k b (omega arith) s) (head_kinds j b (omega arith) t) h i in
     ⊎_elim (λ e. ⊎_elim (λ f. e ∙ sym f) here (low j b t)) here (low k b s)

@@ -132,7 +132,7 @@ spaced_space (q ∷ ps) k ms t s =
     let p : Piece = record { kind = k; marks = ms } in
     ap (λ v. cond (is_token q.kind) v (next_spaced (ps ++ p ∷ []))) (space_push false (q ∷ ps) p ∙ s)
     ∙ (ap (λ v. cond (is_token q.kind) true v) (spaced_space ps k ms t s)
-      ∙ by_first (is_token q.kind) (later_tokens false (q ∷ ps)) (line_tokens ps) (λ h. some_tokens q.kind q.marks (later_tokens (spaced_after q.kind) ps) h))
+    ∙ by_first (is_token q.kind) (later_tokens false (q ∷ ps)) (line_tokens ps) (λ h. some_tokens q.kind q.marks (later_tokens (spaced_after q.kind) ps) h))
 
 -- the lines of more marks
 with_lines_append : (ms ns : List Mark) (set : List ℕ) → with_lines (ms ++ ns) set ≡ with_lines ns (with_lines ms set)
@@ -157,14 +157,17 @@ abbrev pub HasRead : List Mark → List Mark → List Token → List ℕ → Boo
 HasRead ms rest tokens counted spaced = (part : List Piece) × ReadsTo ms part rest tokens counted spaced
 
 pub read_none : (ms : List Mark) → HasRead ms ms [] [] false
-read_none ms = ([], record {
+read_none ms = (
+  [],
+  record {
     in_line = tt;
     cuts = refl;
     tokens_are = refl;
     counted_are = refl;
     spaced_is = refl;
     no_longer = omega arith;
-  })
+  },
+)
 
 no_token : (k : PieceKind) (ms : List Mark) (s : Bool) → is_token k ≡ false → token_of k ms s ≡ []
 no_token kinds.White ms s h = refl
@@ -181,30 +184,34 @@ no_marks (kinds.Token k) ms h = absurd (false≢true (sym h))
 pub read_token : (ms rest : List Mark) (tokens : List Token) (counted : List ℕ) (spaced : Bool) (k : TokenKind) (n : ℕ) → HasRead ms rest tokens counted spaced → StandsFirst (bytes_of rest) (first.Piece (kinds.Token k) n)
     → HasRead ms (drop n rest) (tokens ++ record { kind = k; text = take n (bytes_of rest); spaced = spaced } ∷ []) (with_lines (take n rest) counted) false
 read_token ms rest tokens counted spaced k n (part, r) h =
-    let p = piece_at (kinds.Token k) n rest in
-    (part ++ p ∷ [], record {
-      in_line = in_line_push part p r.in_line refl;
-      cuts = cuts_push ms part rest (kinds.Token k) n r.cuts h;
-      tokens_are = ap (λ ts. ts ++ record { kind = k; text = take n (bytes_of rest); spaced = spaced } ∷ []) r.tokens_are
-        ∙ ap (λ t. line_tokens part ++ record { kind = k; text = t; spaced = spaced } ∷ []) (take-map (λ (m : Mark). m.byte) n rest)
-        ∙ ap (λ s. line_tokens part ++ record { kind = k; text = bytes_of (take n rest); spaced = s } ∷ []) r.spaced_is ∙ sym (line_tokens_push part p);
-      counted_are = ap (with_lines (take n rest)) r.counted_are ∙ sym (counted_push part p);
-      spaced_is = sym (spaced_token part k (take n rest));
-      no_longer = let k = r.no_longer in omega (arith, length-drop n rest);
-    })
+    let p = piece_at (kinds.Token k) n rest in (
+      part ++ p ∷ [],
+      record {
+        in_line = in_line_push part p r.in_line refl;
+        cuts = cuts_push ms part rest (kinds.Token k) n r.cuts h;
+        tokens_are = ap (λ ts. ts ++ record { kind = k; text = take n (bytes_of rest); spaced = spaced } ∷ []) r.tokens_are
+            ∙ ap (λ t. line_tokens part ++ record { kind = k; text = t; spaced = spaced } ∷ []) (take-map (λ (m : Mark). m.byte) n rest)
+            ∙ ap (λ s. line_tokens part ++ record { kind = k; text = bytes_of (take n rest); spaced = s } ∷ []) r.spaced_is ∙ sym (line_tokens_push part p);
+        counted_are = ap (with_lines (take n rest)) r.counted_are ∙ sym (counted_push part p);
+        spaced_is = sym (spaced_token part k (take n rest));
+        no_longer = let k = r.no_longer in omega (arith, length-drop n rest);
+      },
+    )
 
 pub read_space : (ms rest : List Mark) (tokens : List Token) (counted : List ℕ) (spaced : Bool) (k : PieceKind) (n : ℕ) → HasRead ms rest tokens counted spaced → StandsFirst (bytes_of rest) (first.Piece k n) → is_token k ≡ false → spaced_after k ≡ true → ends_line k ≡ false
     → HasRead ms (drop n rest) tokens counted (not (length tokens == 0))
 read_space ms rest tokens counted spaced k n (part, r) h t s e =
-    let p = piece_at k n rest in
-    (part ++ p ∷ [], record {
-      in_line = in_line_push part p r.in_line e;
-      cuts = cuts_push ms part rest k n r.cuts h;
-      tokens_are = r.tokens_are ∙ sym (append-nil (line_tokens part)) ∙ ap (λ ts. line_tokens part ++ ts) (sym (no_token k (take n rest) (next_spaced part) t)) ∙ sym (line_tokens_push part p);
-      counted_are = r.counted_are ∙ ap (λ ns. with_lines ns (counted_lines part)) (sym (no_marks k (take n rest) t)) ∙ sym (counted_push part p);
-      spaced_is = ap (λ ts. not (length ts == 0)) r.tokens_are ∙ sym (spaced_space part k (take n rest) t s);
-      no_longer = let k = r.no_longer in omega (arith, length-drop n rest);
-    })
+    let p = piece_at k n rest in (
+      part ++ p ∷ [],
+      record {
+        in_line = in_line_push part p r.in_line e;
+        cuts = cuts_push ms part rest k n r.cuts h;
+        tokens_are = r.tokens_are ∙ sym (append-nil (line_tokens part)) ∙ ap (λ ts. line_tokens part ++ ts) (sym (no_token k (take n rest) (next_spaced part) t)) ∙ sym (line_tokens_push part p);
+        counted_are = r.counted_are ∙ ap (λ ns. with_lines ns (counted_lines part)) (sym (no_marks k (take n rest) t)) ∙ sym (counted_push part p);
+        spaced_is = ap (λ ts. not (length ts == 0)) r.tokens_are ∙ sym (spaced_space part k (take n rest) t s);
+        no_longer = let k = r.no_longer in omega (arith, length-drop n rest);
+      },
+    )
 
 -- the same, under equal names
 pub read_as : (ms rest rest' : List Mark) (tokens tokens' : List Token) (counted counted' : List ℕ) (spaced spaced' : Bool) → HasRead ms rest tokens counted spaced → rest' ≡ rest → tokens' ≡ tokens → counted' ≡ counted → spaced' ≡ spaced → HasRead ms rest' tokens' counted' spaced'

@@ -12,5 +12,4 @@ pub fn one_cut()
     ensures lines { (ms : List Mark) (a b : List Line) → AreLinesOf ms a → AreLinesOf ms b → a ≡ b }
     ensures no_cut { (ms : List Mark) (ps : List Piece) (line : ℕ) → IsCut ms ps → HasOpenComment ms line → ⊥ }
     ensures line { (ms : List Mark) (a b : ℕ) → HasOpenComment ms a → HasOpenComment ms b → a ≡ b }
-{
-}
+{}

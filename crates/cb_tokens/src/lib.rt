@@ -12,6 +12,8 @@ mod number;
 mod punctuator;
 mod quote;
 mod runs;
+#[cfg(test)]
+mod tests;
 mod token;
 
 pub use fault::LexFault;
