@@ -1,11 +1,11 @@
 -- Logical lines, one after another.
-use Rattle.std.proofs.Common.{◌≡◌, ℕ, List, [], ◌∷◌, ◌++◌, length, map, sym, refl, ap, ◌∙◌, subst, append_assoc}
-use Rattle.std.proofs.lemmas.List.{append-nil, map-append}
+use Rattle.std.proofs.Common.{◌≡◌, ℕ, List, [], ◌∷◌, ◌++◌, map, sym, refl, ap, ◌∙◌, subst, append_assoc}
+use Rattle.std.proofs.lemmas.List.{append-nil}
 use Rattle.cb_lines.specs.declared.mark.Mark.{Mark}
 use Rattle.cb_tokens.specs.declared.token.Token.{Token}
 use Rattle.cb_tokens.specs.declared.lexed.LogicalLine.{LogicalLine}
 use Rattle.cb_tokens.specs.Cut.{Piece, HasOpenComment}
-use Rattle.cb_tokens.specs.Logical.{Line, line_of, line_tokens, counted_lines, split_lines, logical_lines, AreLinesOf, BeginsWithLine}
+use Rattle.cb_tokens.specs.Logical.{Line, line_of, line_tokens, counted_lines, AreLinesOf, BeginsWithLine}
 
 -- a line as contracts see it
 abbrev pub seen : LogicalLine → Line

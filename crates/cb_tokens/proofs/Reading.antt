@@ -1,8 +1,8 @@
 -- A logical line, piece by piece.
-use Rattle.std.proofs.Common.{◌≡◌, ℕ, suc, zero, ◌+◌, ◌<◌, ◌≤◌, ◌==◌, Bool, true, false, not, cond, List, [], ◌∷◌, ◌++◌, length, take, drop, map, sym, refl, ap, ◌∙◌, subst, arith, append_assoc, length-append, length-drop}
+use Rattle.std.proofs.Common.{◌≡◌, ℕ, suc, ◌<◌, ◌≤◌, ◌==◌, Bool, true, false, not, cond, List, [], ◌∷◌, ◌++◌, length, take, drop, sym, refl, ap, ◌∙◌, subst, arith, append_assoc, length-drop}
 use Rattle.std.specs.List.{flat_map}
-use Rattle.std.proofs.lemmas.Bool.{false≢true, both_ways, ne_eqb}
-use Rattle.std.proofs.lemmas.List.{append-nil, nil_from_length, flat_map_more, take-map}
+use Rattle.std.proofs.lemmas.Bool.{false≢true, ne_eqb}
+use Rattle.std.proofs.lemmas.List.{append-nil, flat_map_more, take-map}
 use Rattle.cb_lines.specs.declared.mark.Mark.{Mark}
 use Rattle.cb_lines.specs.Marks.{bytes_of}
 use Rattle.cb_lines.specs.Lines.{with_line, with_lines}
@@ -11,9 +11,9 @@ use Rattle.cb_tokens.specs.declared.token.PieceKind.{PieceKind}
 use Rattle.cb_tokens.specs.declared.token.PieceKind.TheVariants as kinds
 use Rattle.cb_tokens.specs.declared.token.Token.{Token}
 use Rattle.cb_tokens.specs.declared.first.First.TheVariants as first
-use Rattle.cb_tokens.specs.Cut.{StandsFirst, Piece, Cuts, IsCut, HasOpenComment}
+use Rattle.cb_tokens.specs.Cut.{StandsFirst, Piece, Cuts}
 use Rattle.cb_tokens.specs.Logical.{with_piece, before_parts, split_lines, token_marks, token_of, spaced_after, later_tokens, is_token, line_tokens, counted_lines, BeginsWithLine}
-use Rattle.cb_tokens.proofs.Cutting.{piece_at, cuts_append, cuts_one, cuts_push, nothing_left, open_behind, piece_some, piece_within}
+use Rattle.cb_tokens.proofs.Cutting.{piece_at, cuts_append, cuts_push, nothing_left, open_behind, piece_some, piece_within}
 
 -- the piece ends a logical line
 abbrev pub ends_line : PieceKind → Bool

@@ -1,4 +1,4 @@
-use Rattle.std.proofs.Common.{◌≡◌, ◌==◌, not, length, subst, ap, sym, refl, ◌∙◌, arith}
+use Rattle.std.proofs.Common.{◌==◌, not, length, ap, sym, refl, ◌∙◌, arith}
 use Rattle.std.proofs.lemmas.Bool.{eqb-true}
 use Rattle.cb_tokens.specs.declared.token.PieceKind.TheVariants as kinds
 use Rattle.cb_tokens.proofs.Reading.{read_token, read_space, read_as, read_feed, read_end, not_longer, shorter}
