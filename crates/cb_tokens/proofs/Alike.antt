@@ -171,7 +171,7 @@ number_punct b bs h c =
     (or_cases (is_ascii_digit b) ((b == 46) && is_ascii_digit (get_or bs 0 0)) p.0)
 
 -- a comment begins as no punctuator does
-comment_table : (l : List ℕ) → is_punctuator l ≡ true → not (begins_with 47 42 l || begins_with 47 47 l) ≡ true
+pub comment_table : (l : List ℕ) → is_punctuator l ≡ true → not (begins_with 47 42 l || begins_with 47 47 l) ≡ true
 unfolding punctuators begins_with
 comment_table l h = of_punctuators (λ p. not (begins_with 47 42 p || begins_with 47 47 p)) refl l h
 

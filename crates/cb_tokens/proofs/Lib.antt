@@ -14,3 +14,6 @@ pub mod Reading
 pub mod Lines
 pub mod Alike
 pub mod OneCut
+pub mod MarksLeft
+pub mod Decided
+pub mod OneToken

@@ -41,11 +41,11 @@ none_of_three : (x z : Bool) → (false || (x && false && z)) ≡ false
 none_of_three x z = none_of_two x z
 
 -- a letter of a prefix and what it is not
-record Letter (x : ℕ) : Type 0 where
-  prefix : is_prefix_letter x ≡ true
-  name : is_name_start x ≡ true
-  apostrophe : (x == 39) ≡ false
-  double : (x == 34) ≡ false
+pub record Letter (x : ℕ) : Type 0 where
+  pub prefix : is_prefix_letter x ≡ true
+  pub name : is_name_start x ≡ true
+  pub apostrophe : (x == 39) ≡ false
+  pub double : (x == 34) ≡ false
 
 letter_cases : (x : ℕ) → is_prefix_letter x ≡ true → Letter x
 unfolding is_prefix_letter is_name_start
@@ -58,17 +58,17 @@ letter_cases x h =
     (λ f. subst Letter (sym (eqb-true x 85 f)) (record { prefix = refl; name = refl; apostrophe = refl; double = refl }))
     (or_cases ((x == 76) || (x == 117)) (x == 85) h)
 
-letter_of : (xs : List ℕ) → BeginsIn classes.Prefix xs → Letter (get_or xs 0 0)
+pub letter_of : (xs : List ℕ) → BeginsIn classes.Prefix xs → Letter (get_or xs 0 0)
 unfolding fact
 letter_of xs b =
     letter_cases (get_or xs 0 0) (and_parts (is_prefix_letter (get_or xs 0 0)) (is_name_start (get_or xs 0 0)) (fact_of classes.Prefix xs b)).0
 
 -- the forms of quotes behind a letter of a prefix
-character_at : (x y : ℕ) (l : List ℕ) → Letter x → is_character (x ∷ y ∷ l) ≡ ((y == 39) && closes 39 l)
+pub character_at : (x y : ℕ) (l : List ℕ) → Letter x → is_character (x ∷ y ∷ l) ≡ ((y == 39) && closes 39 l)
 unfolding is_character is_quoted
 character_at x y l t = let a = t.apostrophe in let p = t.prefix in rw (a, p) refl
 
-string_at : (x y : ℕ) (l : List ℕ) → Letter x → is_string (x ∷ y ∷ l) ≡ (((y == 34) && closes 34 l) || ((x == 117) && (y == 56) && is_quoted 34 l))
+pub string_at : (x y : ℕ) (l : List ℕ) → Letter x → is_string (x ∷ y ∷ l) ≡ (((y == 34) && closes 34 l) || ((x == 117) && (y == 56) && is_quoted 34 l))
 unfolding is_string is_quoted
 string_at x y l t = let a = t.double in let p = t.prefix in rw (a, p) refl
 
@@ -90,17 +90,17 @@ name_most x q zs n e =
     most2 (Token Identifier) x q zs n (λ m le h. absurd (both_ways (is_identifier (x ∷ q ∷ take m zs)) (name_ends x q (take m zs) e) h))
 
 -- a character constant behind its letter
-char_closes : (x : ℕ) (l : List ℕ) → Letter x → is_character (x ∷ 39 ∷ l) ≡ closes 39 l
+pub char_closes : (x : ℕ) (l : List ℕ) → Letter x → is_character (x ∷ 39 ∷ l) ≡ closes 39 l
 char_closes x l t = character_at x 39 l t
 
-string_fails : (x : ℕ) (l : List ℕ) → Letter x → is_string (x ∷ 39 ∷ l) ≡ false
+pub string_fails : (x : ℕ) (l : List ℕ) → Letter x → is_string (x ∷ 39 ∷ l) ≡ false
 unfolding is_quoted
 string_fails x l t = string_at x 39 l t ∙ none_of_three (x == 117) (is_quoted 34 l)
 
-string_closes : (x : ℕ) (l : List ℕ) → Letter x → is_string (x ∷ 34 ∷ l) ≡ closes 34 l
+pub string_closes : (x : ℕ) (l : List ℕ) → Letter x → is_string (x ∷ 34 ∷ l) ≡ closes 34 l
 string_closes x l t = string_at x 34 l t ∙ (ap (λ v. closes 34 l || v) (none_of_two (x == 117) (is_quoted 34 l)) ∙ or_false (closes 34 l) false refl)
 
-char_fails : (x : ℕ) (l : List ℕ) → Letter x → is_character (x ∷ 34 ∷ l) ≡ false
+pub char_fails : (x : ℕ) (l : List ℕ) → Letter x → is_character (x ∷ 34 ∷ l) ≡ false
 char_fails x l t = character_at x 34 l t
 
 never2 : (k : PieceKind) (x y : ℕ) (zs : List ℕ) (n : ℕ) → 1 ≤ n → ((m : ℕ) → m ≤ length zs → fits k (x ∷ y ∷ take m zs) ≡ false) → IsMost (x ∷ y ∷ zs) n k
@@ -188,7 +188,7 @@ u8_letter : Letter 117
 unfolding is_prefix_letter is_name_start
 u8_letter = record { prefix = refl; name = refl; apostrophe = refl; double = refl }
 
-u8_closes : (l : List ℕ) → is_string (117 ∷ 56 ∷ 34 ∷ l) ≡ closes 34 l
+pub u8_closes : (l : List ℕ) → is_string (117 ∷ 56 ∷ 34 ∷ l) ≡ closes 34 l
 unfolding is_quoted
 u8_closes l = string_at 117 56 (34 ∷ l) u8_letter
 
@@ -200,7 +200,7 @@ u8_name : (l : List ℕ) → is_identifier (117 ∷ 56 ∷ 34 ∷ l) ≡ false
 unfolding is_identifier is_name_byte is_name_start
 u8_name l = refl
 
-u8_char : (l : List ℕ) → is_character (117 ∷ 56 ∷ l) ≡ false
+pub u8_char : (l : List ℕ) → is_character (117 ∷ 56 ∷ l) ≡ false
 u8_char l = character_at 117 56 l u8_letter
 
 u8_name_most : (zs : List ℕ) (n : ℕ) → IsMost (117 ∷ 56 ∷ 34 ∷ zs) (suc (suc (suc n))) (Token Identifier)
@@ -268,7 +268,7 @@ unquoted : (y : ℕ) → is_quote y ≡ false → ((y == 39) || (y == 34)) ≡ f
 unfolding is_quote
 unquoted y h = h
 
-no_char : (x y : ℕ) (l : List ℕ) → Letter x → is_quote y ≡ false → is_character (x ∷ y ∷ l) ≡ false
+pub no_char : (x y : ℕ) (l : List ℕ) → Letter x → is_quote y ≡ false → is_character (x ∷ y ∷ l) ≡ false
 no_char x y l t q =
     character_at x y l t ∙ and_left (y == 39) (closes 39 l) (or_none (y == 39) (y == 34) (unquoted y q)).0
 
@@ -283,7 +283,7 @@ no_u8 a zs zero h = and_none a
 no_u8 a [] (suc m) h = and_none a
 no_u8 a (z ∷ zs) (suc m) h = stays_false a (z == 34) (closes 34 (take m zs)) h
 
-no_string : (x y : ℕ) (zs : List ℕ) (m : ℕ) → Letter x → is_quote y ≡ false → ((x == 117) && (y == 56) && (get_or zs 0 0 == 34)) ≡ false → is_string (x ∷ y ∷ take m zs) ≡ false
+pub no_string : (x y : ℕ) (zs : List ℕ) (m : ℕ) → Letter x → is_quote y ≡ false → ((x == 117) && (y == 56) && (get_or zs 0 0 == 34)) ≡ false → is_string (x ∷ y ∷ take m zs) ≡ false
 no_string x y zs m t q u =
     string_at x y (take m zs) t
     ∙ (ap (λ v. v || ((x == 117) && (y == 56) && is_quoted 34 (take m zs))) (and_left (y == 34) (closes 34 (take m zs)) (or_none (y == 39) (y == 34) (unquoted y q)).1)

@@ -2,7 +2,7 @@
 use Rattle.std.proofs.Common.{◌≡◌, ℕ, suc, zero, ◌+◌, ◌<◌, ◌≤◌, Bool, true, false, List, [], ◌∷◌, length, get_or, take, ltb, leb, length-take-le, sym, refl, ap, ◌∙◌, subst, arith, ⊎_elim}
 use Rattle.std.specs.List.{list_all, list_any}
 use Rattle.std.specs.Str.{bytes_eq}
-use Rattle.std.proofs.lemmas.Bool.{false≢true, both_ways, and_parts, or_cases, leb-true, ltb-true, cases_lt}
+use Rattle.std.proofs.lemmas.Bool.{false≢true, both_ways, and_parts, or_cases, leb-true, ltb-true, cases_lt, false_from_ne_true}
 use Rattle.std.proofs.lemmas.List.{get_or_past}
 use Rattle.std.proofs.lemmas.Slice.Eq.{bytes_eq-Decides}
 use Rattle.cb_tokens.specs.Forms.{is_punctuator, punctuators}
@@ -141,3 +141,7 @@ longest1 xs four three two h =
       holds = h;
       longest = within xs 1 (omega arith) (λ k. two) (λ k. three) (λ k. four);
     }
+
+pub too_long : (a b c d e : ℕ) (xs : List ℕ) → is_punctuator (a ∷ b ∷ c ∷ d ∷ e ∷ xs) ≡ false
+too_long a b c d e xs =
+    false_from_ne_true (is_punctuator (a ∷ b ∷ c ∷ d ∷ e ∷ xs)) (λ h. let s = is_short (a ∷ b ∷ c ∷ d ∷ e ∷ xs) h in omega arith)

@@ -146,23 +146,23 @@ unfolding is_stray
 stray_quote q [] h = rw h (dropped (is_white q || is_line_feed q || is_name_start q || is_ascii_digit q) (is_punctuator (q ∷ [])))
 stray_quote q (x ∷ xs) h = refl
 
-unclosed_other : (q : ℕ) (l : List ℕ) → is_quote q ≡ true → (is_unclosed (q ∷ l) || is_stray (q ∷ l)) ≡ stays_unclosed q l
+pub unclosed_other : (q : ℕ) (l : List ℕ) → is_quote q ≡ true → (is_unclosed (q ∷ l) || is_stray (q ∷ l)) ≡ stays_unclosed q l
 unfolding is_unclosed
 unclosed_other q l h = or_false (is_quote q && stays_unclosed q l) (is_stray (q ∷ l)) (stray_quote q l h) ∙ rw h refl
 
-char_char : (l : List ℕ) → is_character (39 ∷ l) ≡ closes 39 l
+pub char_char : (l : List ℕ) → is_character (39 ∷ l) ≡ closes 39 l
 unfolding is_character is_quoted is_prefix_letter
 char_char l = or_false (closes 39 l) false refl
 
-string_char : (l : List ℕ) → is_string (39 ∷ l) ≡ false
+pub string_char : (l : List ℕ) → is_string (39 ∷ l) ≡ false
 unfolding is_string is_quoted is_prefix_letter
 string_char l = refl
 
-char_string : (l : List ℕ) → is_character (34 ∷ l) ≡ false
+pub char_string : (l : List ℕ) → is_character (34 ∷ l) ≡ false
 unfolding is_character is_quoted is_prefix_letter
 char_string l = refl
 
-string_string : (l : List ℕ) → is_string (34 ∷ l) ≡ closes 34 l
+pub string_string : (l : List ℕ) → is_string (34 ∷ l) ≡ closes 34 l
 unfolding is_string is_quoted is_prefix_letter
 string_string l = or_false (closes 34 l || false) false refl ∙ or_false (closes 34 l) false refl
 

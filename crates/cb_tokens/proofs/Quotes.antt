@@ -14,16 +14,16 @@ unfolding is_quote
 quote_cases q h = ⊎_elim (λ e. inl (eqb-true q 39 e)) (λ e. inr (eqb-true q 34 e)) (or_cases (q == 39) (q == 34) h)
 
 -- what holds of both quotes holds of a quote
-for_quote : (P : ℕ → Type 0) (q : ℕ) → is_quote q ≡ true → P 39 → P 34 → P q
+pub for_quote : (P : ℕ → Type 0) (q : ℕ) → is_quote q ≡ true → P 39 → P 34 → P q
 for_quote P q h one two = ⊎_elim (λ e. subst P (sym e) one) (λ e. subst P (sym e) two) (quote_cases q h)
 
 -- a line end closes no quote, and no quote stays open over it
-feed_closes : (q b : ℕ) (xs : List ℕ) → is_quote q ≡ true → is_line_feed b ≡ true → closes q (b ∷ xs) ≡ false
+pub feed_closes : (q b : ℕ) (xs : List ℕ) → is_quote q ≡ true → is_line_feed b ≡ true → closes q (b ∷ xs) ≡ false
 unfolding closes is_line_feed
 feed_closes q b [] h e = rw (eqb-true b 10 e) (for_quote (λ q. (10 == q) ≡ false) q h refl refl)
 feed_closes q b (x ∷ xs) h e = rw (eqb-true b 10 e) (for_quote (λ q. cond ((10 == q) || true) false (closes q (x ∷ xs)) ≡ false) q h refl refl)
 
-feed_stays : (q b : ℕ) (xs : List ℕ) → is_line_feed b ≡ true → stays_unclosed q (b ∷ xs) ≡ false
+pub feed_stays : (q b : ℕ) (xs : List ℕ) → is_line_feed b ≡ true → stays_unclosed q (b ∷ xs) ≡ false
 unfolding stays_unclosed
 feed_stays q b [] e = grind arith
 feed_stays q b (x ∷ xs) e = grind arith
@@ -34,17 +34,24 @@ Alone b [] = Unit {0}
 Alone b (c ∷ cs) = ((b == 92) && not (is_line_feed c)) ≡ false
 
 -- a byte that is neither the quote nor a line end, and no backslash that takes the next one with it
-record Plain (q b : ℕ) (bs : List ℕ) : Type 0 where
-  other : (b == q) ≡ false
-  stays : is_line_feed b ≡ false
-  alone : Alone b bs
+pub record Plain (q b : ℕ) (bs : List ℕ) : Type 0 where
+  pub other : (b == q) ≡ false
+  pub stays : is_line_feed b ≡ false
+  pub alone : Alone b bs
+
+alone_of : (b : ℕ) (bs : List ℕ) → (b == 92) ≡ false → Alone b bs
+alone_of b [] h = tt
+alone_of b (c ∷ cs) h = rw h refl
+
+pub plain_of : (q b : ℕ) (bs : List ℕ) → (b == q) ≡ false → is_line_feed b ≡ false → (b == 92) ≡ false → Plain q b bs
+plain_of q b bs other stays h = record { other = other; stays = stays; alone = alone_of b bs h }
 
 alone_goes : (x y u v : Bool) → (x && not y) ≡ false → (y ≡ true → v ≡ false) → cond x (not y && u) v ≡ v
 alone_goes false y u v e h = refl
 alone_goes true true u v e h = sym (h refl)
 alone_goes true false u v e h = absurd (false≢true (sym e))
 
-closes_on : (q b : ℕ) (bs : List ℕ) → is_quote q ≡ true → Plain q b bs → (m : ℕ) → closes q (b ∷ take m bs) ≡ closes q (take m bs)
+pub closes_on : (q b : ℕ) (bs : List ℕ) → is_quote q ≡ true → Plain q b bs → (m : ℕ) → closes q (b ∷ take m bs) ≡ closes q (take m bs)
 unfolding closes
 closes_on q b bs quote p zero = p.other
 closes_on q b [] quote p (suc m) = p.other
@@ -53,7 +60,7 @@ closes_on q b (c ∷ cs) quote p (suc m) =
     let stays = p.stays in
     rw (other, stays) (alone_goes (b == 92) (is_line_feed c) (closes q (take m cs)) (closes q (c ∷ take m cs)) p.alone (λ e. feed_closes q c (take m cs) quote e))
 
-stays_on : (q b : ℕ) (bs : List ℕ) → Plain q b bs → (m : ℕ) → stays_unclosed q (b ∷ take m bs) ≡ stays_unclosed q (take m bs)
+pub stays_on : (q b : ℕ) (bs : List ℕ) → Plain q b bs → (m : ℕ) → stays_unclosed q (b ∷ take m bs) ≡ stays_unclosed q (take m bs)
 unfolding stays_unclosed
 stays_on q b bs p zero = let other = p.other in let stays = p.stays in rw (other, stays) refl
 stays_on q b [] p (suc m) = let other = p.other in let stays = p.stays in rw (other, stays) refl
@@ -63,12 +70,12 @@ stays_on q b (c ∷ cs) p (suc m) =
     rw (other, stays) (alone_goes (b == 92) (is_line_feed c) (stays_unclosed q (take m cs)) (stays_unclosed q (c ∷ take m cs)) p.alone (λ e. feed_stays q c (take m cs) e))
 
 -- a backslash and the byte that it takes with it
-closes_over : (q c : ℕ) (cs : List ℕ) → is_quote q ≡ true → is_line_feed c ≡ false → (m : ℕ) → closes q (92 ∷ c ∷ take m cs) ≡ closes q (take m cs)
+pub closes_over : (q c : ℕ) (cs : List ℕ) → is_quote q ≡ true → is_line_feed c ≡ false → (m : ℕ) → closes q (92 ∷ c ∷ take m cs) ≡ closes q (take m cs)
 unfolding closes is_line_feed
 closes_over q c cs quote e m =
     for_quote (λ q. closes q (92 ∷ c ∷ take m cs) ≡ closes q (take m cs)) q quote (rw e refl) (rw e refl)
 
-stays_over : (q c : ℕ) (cs : List ℕ) → is_quote q ≡ true → is_line_feed c ≡ false → (m : ℕ) → stays_unclosed q (92 ∷ c ∷ take m cs) ≡ stays_unclosed q (take m cs)
+pub stays_over : (q c : ℕ) (cs : List ℕ) → is_quote q ≡ true → is_line_feed c ≡ false → (m : ℕ) → stays_unclosed q (92 ∷ c ∷ take m cs) ≡ stays_unclosed q (take m cs)
 unfolding stays_unclosed is_line_feed
 stays_over q c cs quote e m =
     for_quote (λ q. stays_unclosed q (92 ∷ c ∷ take m cs) ≡ stays_unclosed q (take m cs)) q quote (rw e refl) (rw e refl)

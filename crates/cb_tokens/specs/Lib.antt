@@ -3,3 +3,4 @@ pub mod Cut
 pub mod Logical
 pub mod Classes
 pub mod Scan
+pub mod Whole

@@ -113,7 +113,7 @@ fn slash(bytes: &[u8]) -> First
 }
 
 /// The kind of a token between such quotes.
-fn quoted_kind(quote: u8) -> TokenKind
+pub(crate) fn quoted_kind(quote: u8) -> TokenKind
     ensures { result ≡ quoted_kind quote }
 {
     if quote == b'\'' {

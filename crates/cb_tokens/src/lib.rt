@@ -6,6 +6,7 @@ mod comment;
 mod fault;
 mod first;
 mod laws;
+mod left;
 mod lexed;
 mod lexing;
 mod number;
@@ -15,6 +16,7 @@ mod runs;
 #[cfg(test)]
 mod tests;
 mod token;
+mod whole;
 
 pub use fault::LexFault;
 pub use first::{First, first_piece};
@@ -22,3 +24,4 @@ pub use laws::one_cut;
 pub use lexed::Lexed;
 pub use lexing::tokens;
 pub use token::{PieceKind, Token, TokenKind};
+pub use whole::one_token;

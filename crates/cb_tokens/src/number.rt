@@ -7,7 +7,7 @@ use crate::runs::{byte_at, is_name_byte};
 
 /// Whether a number goes on over a byte between its neighbours, of which `after` is 0 where there is none.
 #[tactic(auto, unfolding(crate::specs::Forms::continues_number))]
-fn continues_number(before: u8, byte: u8, after: u8) -> bool
+pub(crate) fn continues_number(before: u8, byte: u8, after: u8) -> bool
     ensures { result ≡ continues_number before byte after }
 {
     if is_name_byte(byte) || byte == b'.' {

@@ -5,9 +5,22 @@ ghost use Rattle.cb_tokens.specs.Scan.{IsLongest};
 
 use crate::runs::byte_at;
 
+/// Whether the byte is a punctuator.
+#[tactic(auto, unfolding(crate::specs::Forms::is_punctuator, crate::specs::Forms::punctuators))]
+pub(crate) fn is_single(byte: u8) -> bool
+    ensures { result ≡ is_punctuator (byte ∷ []) }
+{
+    match byte {
+        b'[' | b']' | b'(' | b')' | b'{' | b'}' | b'~' | b'?' | b';' | b',' | b'.' | b'/' => true,
+        b'-' | b'+' | b'&' | b'*' | b'!' | b'%' | b'<' | b'>' | b'^' | b'|' | b':' | b'=' | b'#' =>
+            true,
+        _ => false,
+    }
+}
+
 /// Whether the two bytes are a punctuator.
 #[tactic(auto, unfolding(crate::specs::Forms::is_punctuator, crate::specs::Forms::punctuators))]
-fn is_pair(first: u8, second: u8) -> bool
+pub(crate) fn is_pair(first: u8, second: u8) -> bool
     ensures { result ≡ is_punctuator (first ∷ second ∷ []) }
 {
     match first {
@@ -27,7 +40,7 @@ fn is_pair(first: u8, second: u8) -> bool
 
 /// Whether the three bytes are a punctuator.
 #[tactic(auto, unfolding(crate::specs::Forms::is_punctuator, crate::specs::Forms::punctuators))]
-fn is_triple(first: u8, second: u8, third: u8) -> bool
+pub(crate) fn is_triple(first: u8, second: u8, third: u8) -> bool
     ensures { result ≡ is_punctuator (first ∷ second ∷ third ∷ []) }
 {
     match first {
@@ -40,7 +53,7 @@ fn is_triple(first: u8, second: u8, third: u8) -> bool
 
 /// Whether the four bytes are a punctuator.
 #[tactic(auto, unfolding(crate::specs::Forms::is_punctuator, crate::specs::Forms::punctuators))]
-fn is_quadruple(first: u8, second: u8, third: u8, fourth: u8) -> bool
+pub(crate) fn is_quadruple(first: u8, second: u8, third: u8, fourth: u8) -> bool
     ensures { result ≡ is_punctuator (first ∷ second ∷ third ∷ fourth ∷ []) }
 {
     first == b'%' && second == b':' && third == b'%' && fourth == b':'

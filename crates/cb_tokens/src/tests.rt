@@ -1,5 +1,7 @@
 //! Sources with their tokens and counted lines, worked by hand.
-use crate::{First, LexFault, Lexed, PieceKind, Token, TokenKind, first_piece, one_cut, tokens};
+use crate::{
+    First, LexFault, Lexed, PieceKind, Token, TokenKind, first_piece, one_cut, one_token, tokens,
+};
 use std::alloc::Global;
 use std::test::Fail;
 
@@ -112,4 +114,31 @@ fn a_piece_stands_first(rt: HostRuntime) {
     };
     assert_eq!(rt; first_piece(b"/*a*/b"), piece);
     assert_eq!(rt; first_piece(b"/*/"), First::OpenComment);
+}
+
+#[test]
+fn bytes_are_one_token(rt: HostRuntime) {
+    let rows: [(&[u8], Option<TokenKind>); 18] = [
+        (b"a\\\nb1", Some(TokenKind::Identifier)),
+        (b"u8", Some(TokenKind::Identifier)),
+        (b".5e\\\r\n+1", Some(TokenKind::Number)),
+        (b"1'0", Some(TokenKind::Number)),
+        (b"L'\\'\\\n'", Some(TokenKind::Char)),
+        (b"u8\"\\\\\"", Some(TokenKind::Str)),
+        (b"U\"x\"", Some(TokenKind::Str)),
+        (b"%:\\\n%:", Some(TokenKind::Punct)),
+        (b"...", Some(TokenKind::Punct)),
+        (b"/=", Some(TokenKind::Punct)),
+        (b"'a\\", Some(TokenKind::Other)),
+        (b"@", Some(TokenKind::Other)),
+        (b"", None),
+        (b"a\n", None),
+        (b"a b", None),
+        (b"u8'x'", None),
+        (b"//", None),
+        (b"1'", None),
+    ];
+    for (source, kind) in rows {
+        assert_eq!(rt; one_token(source), kind);
+    }
 }
