@@ -1,4 +1,4 @@
--- What the scanners of single forms answer (own).
+-- What the scanners of single forms answer. No public clause names these words.
 use Rattle.std.specs.Prelude.{◌≡◌, ℕ, ◌+◌, ◌≤◌, ◌==◌, ◌&&◌, Bool, true, false, not, nat_lt, if◌then◌else◌, List, length, take, slice_index, Option, Some, None}
 use Rattle.cb_tokens.specs.Forms.{is_quote, is_line_feed, closes, stays_unclosed, ends_comment, has_comment_end}
 use Rattle.cb_tokens.specs.declared.token.TokenKind.{TokenKind}
