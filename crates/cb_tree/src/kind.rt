@@ -1,0 +1,49 @@
+//! The kind of a directive line, and what stands behind its name.
+ghost use Rattle.std.specs.Prelude.{◌≡◌, length, codes};
+ghost use Rattle.cb_tree.specs.Kinds.{is_identifier_kind, is_hash, is_directive, begins_with_name, kind_of_name, kind_of, rest_of};
+
+use crate::node::NodeKind;
+use cb_tokens::{Token, TokenKind};
+
+/// Whether a token is an identifier.
+fn is_identifier(token: &Token) -> bool
+    ensures { result ≡ is_identifier_kind token.now.kind }
+{
+    match token.kind {
+        TokenKind::Identifier => true,
+        _ => false,
+    }
+}
+
+/// Whether a token is `#` or `%:`.
+#[tactic(auto, unfolding(crate::specs::Kinds::is_hash))]
+pub(crate) fn is_hash(token: &Token) -> bool
+    ensures { result ≡ is_hash token.now }
+{
+    let text = token.text.as_slice();
+    text == b"#".as_slice() || text == b"%:".as_slice()
+}
+
+/// Whether the identifier `once` stands first.
+fn begins_with_once(tokens: &[Token]) -> bool
+    ensures { result ≡ begins_with_name (codes "once") tokens.now }
+{
+    match tokens {
+        [] => false,
+        [first, ..] => is_identifier(first) && first.text.as_slice() == b"once".as_slice(),
+    }
+}
+
+/// The tokens of a directive line behind its name, or behind its `#` where no identifier follows that.
+pub(crate) fn rest(tokens: &[Token]) -> &[Token]
+    ensures { result.now ≡ rest_of tokens.now }
+{
+    if tokens.len() < 2 {
+        return &tokens[tokens.len()..];
+    }
+    if is_identifier(&tokens[1]) {
+        &tokens[2..]
+    } else {
+        &tokens[1..]
+    }
+}

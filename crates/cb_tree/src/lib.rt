@@ -1,0 +1,13 @@
+//! The tree of a source: its directive lines and runs of text, checked and nested.
+#![tactic(auto)]
+
+mod building;
+mod fault;
+mod kind;
+mod node;
+mod tree;
+
+pub use building::build;
+pub use fault::{BadSource, BuildFault, SourceKind};
+pub use node::NodeKind;
+pub use tree::Tree;

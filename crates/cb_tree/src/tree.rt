@@ -1,0 +1,79 @@
+//! The tree of a source.
+ghost use Rattle.std.specs.Prelude.{◌≡◌, ◌<◌, ◌≤◌, ◌-◌, length, slice_get, Some};
+ghost use Rattle.std.specs.Option.{option_map};
+ghost use Rattle.std.specs.List.{flat_map};
+ghost use Rattle.cb_lines.specs.Lines.{AreMaximal, span_lines};
+ghost use Rattle.cb_tree.specs.Nodes.{node_line, node_rest, first_of};
+
+use crate::kind;
+use crate::node::{NodeData, NodeKind};
+use cb_lines::{Lines, Span};
+use cb_tokens::Token;
+use std::marker::Model;
+
+/// The tree of a sound source, which contracts see as the list of its nodes. Nodes are numbered from 1.
+#[derive(Drop)]
+pub struct Tree {
+    pub(crate) nodes: Vec<NodeData>,
+}
+
+impl Model for Tree {
+    ghost use Rattle.std.specs.Prelude.{List, map, ◌≤◌, length};
+    ghost use Rattle.cb_tree.specs.Nodes.{Node};
+
+    ghost Value = { List Node };
+
+    ghost view = { λ t. map (λ n. record { kind = n.kind; tokens = n.tokens.items; counted = n.counted }) t.nodes.items };
+
+    ghost invariant = { λ t. length t.nodes.items ≤ 200000 };
+}
+
+/// The least number of spans; 0 where there is none.
+#[tactic(auto, using(crate::proofs::Spans::first_of_spans))]
+fn first_line(spans: &[Span]) -> u32
+    requires { AreMaximal spans.now }
+    ensures { result ≡ first_of (flat_map span_lines spans.now) }
+{
+    if spans.is_empty() { 0 } else { spans[0].first }
+}
+
+impl Tree {
+    /// The number of nodes.
+    pub fn len(&self) -> u32
+        ensures { result ≡ length self.now }
+    {
+        self.nodes.len() as u32
+    }
+
+    /// The kind of a node.
+    pub fn kind(&self, node: u32) -> NodeKind
+        requires { (1 ≤ node) × (node ≤ length self.now) }
+        ensures { option_map (λ n. n.kind) (slice_get self.now (node - 1)) ≡ Some result }
+    {
+        self.nodes[node as usize - 1].kind
+    }
+
+    /// The tokens of a directive behind its name, or behind its `#` where no identifier follows that; none of text.
+    pub fn rest(&self, node: u32) -> &[Token]
+        requires { (1 ≤ node) × (node ≤ length self.now) }
+        ensures { option_map node_rest (slice_get self.now (node - 1)) ≡ Some result.now }
+    {
+        kind::rest(self.nodes[node as usize - 1].tokens.as_slice())
+    }
+
+    /// The set of the physical lines on which a byte of a token of the node stands.
+    pub fn counted(&self, node: u32) -> &Lines
+        requires { (1 ≤ node) × (node ≤ length self.now) }
+        ensures { option_map (λ n. n.counted) (slice_get self.now (node - 1)) ≡ Some result.now }
+    {
+        &self.nodes[node as usize - 1].counted
+    }
+
+    /// The first physical line with a byte of a token of the node.
+    pub fn line(&self, node: u32) -> u32
+        requires { (1 ≤ node) × (node ≤ length self.now) }
+        ensures { option_map node_line (slice_get self.now (node - 1)) ≡ Some result }
+    {
+        first_line(self.counted(node).spans())
+    }
+}
