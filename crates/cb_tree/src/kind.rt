@@ -47,3 +47,49 @@ pub(crate) fn rest(tokens: &[Token]) -> &[Token]
         &tokens[1..]
     }
 }
+
+/// The kind of a directive by its name and the tokens behind that.
+#[tactic(auto, unfolding(crate::specs::Kinds::kind_of_name))]
+fn kind_of_name(name: &[u8], rest: &[Token]) -> NodeKind
+    ensures { result ≡ kind_of_name name.now rest.now }
+{
+    if name == b"if".as_slice() {
+        NodeKind::If
+    } else if name == b"ifdef".as_slice() {
+        NodeKind::Ifdef
+    } else if name == b"ifndef".as_slice() {
+        NodeKind::Ifndef
+    } else if name == b"elif".as_slice() {
+        NodeKind::Elif
+    } else if name == b"else".as_slice() {
+        NodeKind::Else
+    } else if name == b"endif".as_slice() {
+        NodeKind::Endif
+    } else if name == b"define".as_slice() {
+        NodeKind::Define
+    } else if name == b"undef".as_slice() {
+        NodeKind::Undef
+    } else if name == b"include".as_slice() {
+        NodeKind::Include
+    } else if name == b"error".as_slice() {
+        NodeKind::Error
+    } else if name == b"pragma".as_slice() && begins_with_once(rest) {
+        NodeKind::Once
+    } else {
+        NodeKind::Other
+    }
+}
+
+/// The kind of a directive line.
+pub(crate) fn kind_of(tokens: &[Token]) -> NodeKind
+    ensures { result ≡ kind_of tokens.now }
+{
+    if tokens.len() < 2 {
+        return NodeKind::Other;
+    }
+    if is_identifier(&tokens[1]) {
+        kind_of_name(tokens[1].text.as_slice(), &tokens[2..])
+    } else {
+        NodeKind::Other
+    }
+}
