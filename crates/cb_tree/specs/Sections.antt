@@ -4,12 +4,8 @@ use Rattle.cb_tree.specs.declared.node.NodeKind.{NodeKind}
 use Rattle.cb_tree.specs.declared.node.NodeKind.TheVariants.{Text, If, Ifdef, Ifndef, Elif, Else, Endif, Define, Undef, Include, Once, Error, Other}
 use Rattle.cb_tree.specs.declared.fault.SourceKind.TheVariants as kind
 use Rattle.cb_tree.specs.declared.fault.BadSource.{BadSource}
+use Rattle.cb_tree.specs.declared.sections.OpenSection.{OpenSection}
 use Rattle.cb_tree.specs.Nodes.{Node, node_line}
-
--- an open section: the line of its first directive, and whether its #else has come
-pub record OpenSection : Type 0 where
-  pub line : ℕ
-  pub has_else : Bool
 
 -- a section opens; at most 256 are open at once (own)
 abbrev pub opened : ℕ → List OpenSection → Result (List OpenSection) BadSource

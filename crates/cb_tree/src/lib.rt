@@ -5,6 +5,7 @@ mod building;
 mod fault;
 mod kind;
 mod node;
+mod sections;
 mod tree;
 
 pub use building::build;
