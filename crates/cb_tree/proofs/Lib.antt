@@ -1,2 +1,3 @@
 pub mod Spans
 pub mod Stack
+pub mod LastByte

@@ -6,6 +6,7 @@ mod fault;
 mod kind;
 mod node;
 mod sections;
+mod size;
 mod tree;
 
 pub use building::build;

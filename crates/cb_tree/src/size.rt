@@ -1,0 +1,42 @@
+//! The limits on the size of a source.
+ghost use Rattle.std.specs.Prelude.{◌≡◌, ◌+◌, ◌≤◌, ◌<◌, length, MatchResult};
+ghost use Rattle.cb_tree.specs.Sound.{IsWithinLimits, IsRead, Unsound, ends_open, line_count};
+
+use crate::fault::{BadSource, SourceKind};
+use cb_paths::{SOURCE_BYTE_LIMIT, SOURCE_LINE_LIMIT};
+
+/// Whether a last line without a line end stands at the end.
+#[tactic(auto, using(crate::proofs::LastByte::ends_open_by_last))]
+fn ends_open(source: &[u8]) -> bool
+    ensures { result ≡ ends_open source.now }
+{
+    !source.is_empty() && source[source.len() - 1] != b'\n'
+}
+
+/// The number of the physical lines.
+fn line_count(source: &[u8]) -> usize
+    requires { length source.now ≤ 4194304 }
+    ensures { result ≡ line_count source.now }
+{
+    let ended = source.iter().filter(|byte| **byte == b'\n').count();
+    if ends_open(source) { ended + 1 } else { ended }
+}
+
+/// Refuses a source of too many bytes or lines.
+pub(crate) fn check_size(source: &[u8]) -> Result<(), BadSource>
+    ensures { MatchResult result (λ _. IsWithinLimits source.now) (λ fault. IsRead source.now (Unsound fault)) }
+{
+    if source.len() > SOURCE_BYTE_LIMIT {
+        return Err(BadSource {
+            kind: SourceKind::TooLarge,
+            line: 0,
+        });
+    }
+    if line_count(source) > SOURCE_LINE_LIMIT as usize {
+        return Err(BadSource {
+            kind: SourceKind::TooLarge,
+            line: SOURCE_LINE_LIMIT + 1,
+        });
+    }
+    Ok(())
+}
