@@ -17,8 +17,12 @@ is_identifier_kind token.Punct = false
 is_identifier_kind token.Other = false
 
 -- # or the digraph %: (6.10 paragraph 2, 6.4.6 paragraph 3)
-unfoldable pub is_hash : Token → Bool
-is_hash t = bytes_eq t.text (codes "#") || bytes_eq t.text (codes "%:")
+unfoldable pub is_hash_text : List ℕ → Bool
+is_hash_text text = bytes_eq text (codes "#") || bytes_eq text (codes "%:")
+
+-- the token is # (6.10 paragraph 2)
+abbrev pub is_hash : Token → Bool
+is_hash t = is_hash_text t.text
 
 -- a line is a directive line where its first token is # (6.10 paragraph 2)
 abbrev pub is_directive : List Token → Bool

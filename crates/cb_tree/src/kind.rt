@@ -1,6 +1,6 @@
 //! The kind of a directive line, and what stands behind its name.
 ghost use Rattle.std.specs.Prelude.{◌≡◌, length, codes};
-ghost use Rattle.cb_tree.specs.Kinds.{is_identifier_kind, is_hash, is_directive, begins_with_name, kind_of_name, kind_of, rest_of};
+ghost use Rattle.cb_tree.specs.Kinds.{is_identifier_kind, is_hash_text, begins_with_name, kind_of_name, kind_of, rest_of};
 
 use crate::node::NodeKind;
 use cb_tokens::{Token, TokenKind};
@@ -15,12 +15,11 @@ fn is_identifier(token: &Token) -> bool
     }
 }
 
-/// Whether a token is `#` or `%:`.
-#[tactic(auto, unfolding(crate::specs::Kinds::is_hash))]
-pub(crate) fn is_hash(token: &Token) -> bool
-    ensures { result ≡ is_hash token.now }
+/// Whether these are the bytes of `#` or `%:`.
+#[tactic(auto, unfolding(crate::specs::Kinds::is_hash_text))]
+pub(crate) fn is_hash_text(text: &[u8]) -> bool
+    ensures { result ≡ is_hash_text text.now }
 {
-    let text = token.text.as_slice();
     text == b"#".as_slice() || text == b"%:".as_slice()
 }
 

@@ -5,6 +5,7 @@ mod building;
 mod fault;
 mod kind;
 mod node;
+mod reading;
 mod sections;
 mod size;
 mod tree;

@@ -1,0 +1,73 @@
+-- What stands at the front of every cut of marks that begin with # or %:.
+use Rattle.std.proofs.Common.{◌≡◌, ℕ, ◌<◌, ◌≤◌, Bool, true, false, ◌||◌, ◌⊎◌, inl, inr, ⊎_elim, List, [], ◌∷◌, length, take, map, refl, ap, sym, subst, ◌∙◌, arith}
+use Rattle.std.specs.Str.{bytes_eq}
+use Rattle.std.specs.Prelude.{codes}
+use Rattle.std.proofs.lemmas.List.{length-map, take-map}
+use Rattle.std.proofs.lemmas.Slice.Eq.{bytes_eq-Decides}
+use Rattle.std.proofs.lemmas.Bool.Decides.{Decides-or}
+use Rattle.cb_lines.specs.declared.mark.Mark.{Mark}
+use Rattle.cb_lines.specs.Marks.{bytes_of}
+use Rattle.cb_tokens.specs.declared.token.TokenKind.{TokenKind}
+use Rattle.cb_tokens.specs.declared.token.PieceKind.{PieceKind}
+use Rattle.cb_tokens.specs.declared.token.PieceKind.TheVariants as kinds
+use Rattle.cb_tokens.specs.declared.first.First.TheVariants as first
+use Rattle.cb_tokens.specs.Forms.{fits, is_white_run, is_white, is_comment, begins_with}
+use Rattle.cb_tokens.specs.Cut.{Piece, IsFirst, StandsFirst, IsCut}
+use Rattle.cb_tree.specs.Kinds.{is_hash_text}
+use Rattle.cb_tree.proofs.Pieces.{some_bytes}
+
+-- the two spellings
+spellings : (text : List ℕ) → is_hash_text text ≡ true → (text ≡ codes "#") ⊎ (text ≡ codes "%:")
+unfolding is_hash_text
+spellings text h =
+    (Decides-or (bytes_eq text (codes "#")) (bytes_eq text (codes "%:")) (bytes_eq-Decides text (codes "#")) (bytes_eq-Decides text (codes "%:"))).0 h
+
+-- neither is white space, a comment or a line end
+not_blank : (k : PieceKind) → (fits k (codes "#") ≡ true) ⊎ (fits k (codes "%:") ≡ true) → (j : TokenKind) × (k ≡ kinds.Token j)
+unfolding fits is_white_run is_white is_comment begins_with
+not_blank kinds.White (inl h) = absurd (cc)
+not_blank kinds.White (inr h) = absurd (cc)
+not_blank kinds.Comment (inl h) = absurd (cc)
+not_blank kinds.Comment (inr h) = absurd (cc)
+not_blank kinds.LineEnd (inl h) = absurd (cc)
+not_blank kinds.LineEnd (inr h) = absurd (cc)
+not_blank (kinds.Token j) h = (j, refl)
+
+is_token_text : (k : PieceKind) (text : List ℕ) → is_hash_text text ≡ true → fits k text ≡ true → (j : TokenKind) × (k ≡ kinds.Token j)
+is_token_text k text h f =
+    not_blank k (⊎_elim (λ e. inl (subst (λ (x : List ℕ). fits k x ≡ true) e f)) (λ e. inr (subst (λ (x : List ℕ). fits k x ≡ true) e f)) (spellings text h))
+
+-- the longest piece has one length
+one_length : (bs : List ℕ) (k k' : PieceKind) (n n' : ℕ) → IsFirst bs k n → IsFirst bs k' n' → n ≡ n'
+one_length bs k k' n n' a b =
+    omega (arith, a.longest k' n' b.within b.holds, b.longest k n a.within a.holds)
+
+-- a directive's first token stands first in the cut
+pub record BeginsWithHash (more : List Piece) : Type 0 where
+  pub kind : TokenKind
+  pub marks : List Mark
+  pub behind : List Piece
+  pub more_is : more ≡ record { kind = kinds.Token kind; marks = marks } ∷ behind
+  pub hash : is_hash_text (bytes_of marks) ≡ true
+
+same_bytes : (ms : List Mark) (p : Piece) (n : ℕ) → n ≡ length p.marks → p.marks ≡ take (length p.marks) ms → bytes_of p.marks ≡ take n (bytes_of ms)
+same_bytes ms p n e h =
+    ap bytes_of h ∙ (sym (take-map (λ (m : Mark). m.byte) (length p.marks) ms) ∙ ap (λ x. take x (bytes_of ms)) (sym e))
+
+pub hash_next : (ms : List Mark) (k : TokenKind) (n : ℕ) → StandsFirst (bytes_of ms) (first.Piece (kinds.Token k) n)
+  → is_hash_text (take n (bytes_of ms)) ≡ true → (more : List Piece) → IsCut ms more → BeginsWithHash more
+hash_next ms k n h hash [] cut =
+    let e : length (bytes_of ms) ≡ 0 = ap (λ (x : List Mark). length (bytes_of x)) cut in
+    absurd (omega (arith, some_bytes (bytes_of ms) (kinds.Token k) n h.1, h.1.within))
+hash_next ms k n h hash (p ∷ ps) cut =
+    let e : n ≡ length p.marks = one_length (bytes_of ms) (kinds.Token k) p.kind n (length p.marks) h.1 cut.0.first.1 in
+    let t : bytes_of p.marks ≡ take n (bytes_of ms) = same_bytes ms p n e cut.0.marks in
+    let f : fits p.kind (take n (bytes_of ms)) ≡ true = subst (λ x. fits p.kind (take x (bytes_of ms)) ≡ true) (sym e) cut.0.first.1.holds in
+    let j = is_token_text p.kind (take n (bytes_of ms)) hash f in
+    record {
+      kind = j.0;
+      marks = p.marks;
+      behind = ps;
+      more_is = ap (λ x. record { kind = x; marks = p.marks } ∷ ps) j.1;
+      hash = ap is_hash_text t ∙ hash
+    }

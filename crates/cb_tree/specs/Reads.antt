@@ -1,0 +1,105 @@
+-- What the private steps of reading a source's nodes say. No public clause names these words.
+use Rattle.std.specs.Prelude.{◌≡◌, ℕ, Bool, true, false, if◌then◌else◌, List, [], ◌∷◌, ◌++◌, map, Option, Some, None}
+use Rattle.std.specs.List.{flat_map}
+use Rattle.cb_lines.specs.declared.mark.Mark.{Mark}
+use Rattle.cb_lines.specs.Marks.{bytes_of}
+use Rattle.cb_lines.specs.Lines.{lines_of}
+use Rattle.cb_tokens.specs.declared.token.Token.{Token}
+use Rattle.cb_tokens.specs.declared.token.PieceKind.TheVariants as piece
+use Rattle.cb_tokens.specs.declared.first.First.TheVariants as first
+use Rattle.cb_tokens.specs.Cut.{Piece, StandsFirst, Cuts, IsCut, HasOpenComment}
+use Rattle.cb_tokens.specs.Logical.{split_lines, line_tokens, later_tokens, token_marks}
+use Rattle.cb_tree.specs.declared.fault.SourceKind.TheVariants as kind
+use Rattle.cb_tree.specs.declared.fault.BadSource.{BadSource}
+use Rattle.cb_tree.specs.declared.fault.BuildFault.{BuildFault}
+use Rattle.cb_tree.specs.declared.fault.BuildFault.TheVariants.{Bad, NoMemory}
+use Rattle.cb_tree.specs.declared.node.NodeKind.TheVariants.{Text}
+use Rattle.cb_tree.specs.declared.reading.Ahead.{Ahead}
+use Rattle.cb_tree.specs.declared.reading.Start.{Start}
+use Rattle.cb_tree.specs.declared.reading.Place.{Place}
+use Rattle.cb_tree.specs.declared.reading.Place.TheVariants.{LineStart, InLine}
+use Rattle.cb_tree.specs.Kinds.{is_hash, kind_of}
+use Rattle.cb_tree.specs.Nodes.{Node, nodes_of}
+
+-- pieces lead from some marks to others, and their nodes come before those of whatever cut follows
+pub record Reads (ms : List Mark) (nodes : List Node) (rest : List Mark) : Type 0 where
+  pub pieces : List Piece
+  pub cut : Cuts ms pieces rest
+  pub nodes_are : (more : List Piece) → IsCut rest more → nodes_of (pieces ++ more) ≡ nodes ++ nodes_of more
+
+-- a fault that is met while pieces are read: an open comment
+abbrev pub Tells : List Mark → BuildFault → Type 0
+Tells ms (Bad fault) = (fault ≡ record { kind = kind.OpenComment; line = fault.line }) × HasOpenComment ms fault.line
+Tells ms NoMemory = Unit {0}
+
+-- a node in brief: a directive's tokens, and the marks of its tokens, or the marks of the tokens of a run of text
+pub data Brief : Type 0 where
+  Directive : List Token → List Mark → Brief
+  Run : List Mark → Brief
+
+-- the node
+abbrev pub node_in_brief : Brief → Node
+node_in_brief (Directive ts ms) = record { kind = kind_of ts; tokens = ts; counted = lines_of ms }
+node_in_brief (Run ms) = record { kind = Text; tokens = []; counted = lines_of ms }
+
+-- the marks of the tokens of pieces
+abbrev pub solid : List Piece → List Mark
+solid ps = flat_map (λ p. token_marks p.kind p.marks) ps
+
+-- a run, and then nodes, of which a run at their front joins it
+abbrev pub run_before : List Mark → List Brief → List Brief
+run_before ms [] = Run ms ∷ []
+run_before ms (Run more ∷ briefs) = Run (ms ++ more) ∷ briefs
+run_before ms (Directive ts more ∷ briefs) = Run ms ∷ Directive ts more ∷ briefs
+
+-- a logical line, and then nodes
+abbrev pub line_before : List Token → List Mark → List Brief → List Brief
+line_before [] ms briefs = briefs
+line_before (t ∷ ts) ms briefs = if is_hash t then Directive (t ∷ ts) ms ∷ briefs else run_before ms briefs
+
+-- the nodes of logical lines
+abbrev pub briefs_of : List (List Piece) → List Brief
+briefs_of [] = []
+briefs_of (part ∷ parts) = line_before (line_tokens part) (solid part) (briefs_of parts)
+
+-- a run whose last line goes on with the first of these parts
+abbrev pub run_on : List Mark → List (List Piece) → List Brief
+run_on ms [] = Run ms ∷ []
+run_on ms (part ∷ parts) = run_before (ms ++ solid part) (briefs_of parts)
+
+-- a run, at the start of a line or in one
+abbrev pub run_from : Place → List Mark → List (List Piece) → List Brief
+run_from LineStart ms parts = run_before ms (briefs_of parts)
+run_from InLine ms parts = run_on ms parts
+
+-- a directive whose line goes on with the first of these parts
+abbrev pub directive_on : List Token → Bool → List Mark → List (List Piece) → List Brief
+directive_on ts spaced ms [] = Directive ts ms ∷ []
+directive_on ts spaced ms (part ∷ parts) = Directive (ts ++ later_tokens spaced part) (ms ++ solid part) ∷ briefs_of parts
+
+-- a run of text is read up to the rest, and its counted lines are these so far
+pub record ReadsRun (ms : List Mark) (place : Place) (counted : List ℕ) (rest : List Mark) : Type 0 where
+  pub pieces : List Piece
+  pub marks : List Mark
+  pub cut : Cuts ms pieces rest
+  pub counted_are : counted ≡ lines_of marks
+  pub nodes_are : (more : List Piece) → nodes_of (pieces ++ more) ≡ map node_in_brief (run_from place marks (split_lines more))
+
+-- a directive is read up to the rest, and its tokens and counted lines are these so far
+pub record ReadsDirective (ms : List Mark) (tokens : List Token) (spaced : Bool) (counted : List ℕ) (rest : List Mark) : Type 0 where
+  pub pieces : List Piece
+  pub marks : List Mark
+  pub cut : Cuts ms pieces rest
+  pub counted_are : counted ≡ lines_of marks
+  pub nodes_are : (more : List Piece)
+    → nodes_of (pieces ++ more) ≡ map node_in_brief (directive_on tokens spaced marks (split_lines more))
+
+-- the piece that stands next, or none at the end
+abbrev pub StandsNext : List Mark → Option Ahead → Type 0
+StandsNext ms None = ms ≡ []
+StandsNext ms (Some next) = StandsFirst (bytes_of ms) (first.Piece next.kind next.len)
+
+-- the token that stands next, or none at the end
+abbrev pub StartsNext : List Mark → Option Start → Type 0
+StartsNext ms None = ms ≡ []
+StartsNext ms (Some start) = StandsFirst (bytes_of ms) (first.Piece (piece.Token start.kind) start.len)
