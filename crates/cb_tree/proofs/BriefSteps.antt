@@ -31,19 +31,19 @@ front j m = record { kind = kinds.Token j; marks = m }
 
 -- a directive begins
 pub directive_begins : (j : TokenKind) (m : List Mark) (S : List (List Piece)) → is_hash (front_token j m) ≡ true
-  → briefs_of (with_piece (front j m) S) ≡ directive_on (front_token j m ∷ []) false m S
+    → briefs_of (with_piece (front j m) S) ≡ directive_on (front_token j m ∷ []) false m S
 directive_begins j m [] h = rw (h, append-nil m) refl
 directive_begins j m (part ∷ parts) h = rw h refl
 
 -- a run begins
 pub run_begins : (j : TokenKind) (m : List Mark) (S : List (List Piece)) → is_hash (front_token j m) ≡ false
-  → briefs_of (with_piece (front j m) S) ≡ run_on m S
+    → briefs_of (with_piece (front j m) S) ≡ run_on m S
 run_begins j m [] h = rw (h, append-nil m) refl
 run_begins j m (part ∷ parts) h = rw h refl
 
 -- a directive's line goes on with a piece
 pub directive_goes : (k : PieceKind) (m : List Mark) (ts : List Token) (spaced : Bool) (ms : List Mark) (S : List (List Piece))
-  → directive_on ts spaced ms (with_piece (record { kind = k; marks = m }) S)
+    → directive_on ts spaced ms (with_piece (record { kind = k; marks = m }) S)
     ≡ directive_on (ts ++ token_of k m spaced) (spaced_after k) (ms ++ token_marks k m) S
 directive_goes k m ts spaced ms [] = rw (append-nil (token_of k m spaced), append-nil (token_marks k m)) refl
 directive_goes k m ts spaced ms (part ∷ parts) =
@@ -51,12 +51,12 @@ directive_goes k m ts spaced ms (part ∷ parts) =
 
 -- a directive's line ends
 pub directive_ends : (ts : List Token) (spaced : Bool) (ms : List Mark) (S : List (List Piece))
-  → directive_on ts spaced ms ([] ∷ S) ≡ Directive ts ms ∷ briefs_of S
+    → directive_on ts spaced ms ([] ∷ S) ≡ Directive ts ms ∷ briefs_of S
 directive_ends ts spaced ms S = rw (append-nil ts, append-nil ms) refl
 
 -- a line of a run goes on with a piece
 pub run_goes : (k : PieceKind) (m : List Mark) (ms : List Mark) (S : List (List Piece))
-  → run_on ms (with_piece (record { kind = k; marks = m }) S) ≡ run_on (ms ++ token_marks k m) S
+    → run_on ms (with_piece (record { kind = k; marks = m }) S) ≡ run_on (ms ++ token_marks k m) S
 run_goes k m ms [] = rw (append-nil (token_marks k m)) refl
 run_goes k m ms (part ∷ parts) = rw (append_assoc ms (token_marks k m) (solid part)) refl
 
@@ -76,17 +76,17 @@ joins ms m (part ∷ parts) = rw (append_assoc ms m (solid part)) (twice ms (m +
 
 -- a further line of a run begins
 pub run_line_begins : (j : TokenKind) (m ms : List Mark) (S : List (List Piece)) → is_hash (front_token j m) ≡ false
-  → run_before ms (briefs_of (with_piece (front j m) S)) ≡ run_on (ms ++ m) S
+    → run_before ms (briefs_of (with_piece (front j m) S)) ≡ run_on (ms ++ m) S
 run_line_begins j m ms S h = ap (run_before ms) (run_begins j m S h) ∙ joins ms m S
 
 stays_apart : (ms : List Mark) (ts : List Token) (spaced : Bool) (m : List Mark) (S : List (List Piece))
-  → run_before ms (directive_on ts spaced m S) ≡ Run ms ∷ directive_on ts spaced m S
+    → run_before ms (directive_on ts spaced m S) ≡ Run ms ∷ directive_on ts spaced m S
 stays_apart ms ts spaced m [] = refl
 stays_apart ms ts spaced m (part ∷ parts) = refl
 
 -- a run ends where a directive begins
 pub run_ends : (j : TokenKind) (m ms : List Mark) (S : List (List Piece)) → is_hash (front_token j m) ≡ true
-  → run_before ms (briefs_of (with_piece (front j m) S)) ≡ Run ms ∷ briefs_of (with_piece (front j m) S)
+    → run_before ms (briefs_of (with_piece (front j m) S)) ≡ Run ms ∷ briefs_of (with_piece (front j m) S)
 run_ends j m ms S h =
     let e = directive_begins j m S h in
     ap (run_before ms) e ∙ (stays_apart ms (front_token j m ∷ []) false m S ∙ ap (λ bs. Run ms ∷ bs) (sym e))

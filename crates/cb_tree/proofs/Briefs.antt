@@ -19,7 +19,7 @@ abbrev summary : List Piece → Brief
 summary g = if is_directive (line_tokens g) then Directive (line_tokens g) (solid g) else Run (solid g)
 
 chosen : (b : Bool) (ts : List Token) (ms : List Mark)
-  → (if b then record { kind = kind_of ts; tokens = ts; counted = lines_of ms } else record { kind = Text; tokens = []; counted = lines_of ms })
+    → (if b then record { kind = kind_of ts; tokens = ts; counted = lines_of ms } else record { kind = Text; tokens = []; counted = lines_of ms })
     ≡ node_in_brief (if b then Directive ts ms else Run ms)
 chosen true ts ms = refl
 chosen false ts ms = refl
@@ -33,9 +33,9 @@ nodes_are (g ∷ gs) = cc (node_is g, nodes_are gs)
 
 -- what follows a line with a token changes nothing of its first token
 first_piece_stays : (k : PieceKind) (m : List Mark) (ps xs : List Piece) (t : Token) (ts : List Token)
-  → (line_tokens ps ≡ t ∷ ts → is_directive (line_tokens (ps ++ xs)) ≡ is_hash t)
-  → line_tokens (record { kind = k; marks = m } ∷ ps) ≡ t ∷ ts
-  → is_directive (line_tokens (record { kind = k; marks = m } ∷ (ps ++ xs))) ≡ is_hash t
+    → (line_tokens ps ≡ t ∷ ts → is_directive (line_tokens (ps ++ xs)) ≡ is_hash t)
+    → line_tokens (record { kind = k; marks = m } ∷ ps) ≡ t ∷ ts
+    → is_directive (line_tokens (record { kind = k; marks = m } ∷ (ps ++ xs))) ≡ is_hash t
 first_piece_stays kinds.White m ps xs t ts go h = go h
 first_piece_stays kinds.Comment m ps xs t ts go h = go h
 first_piece_stays kinds.LineEnd m ps xs t ts go h = go h
@@ -52,8 +52,8 @@ is_run : (g : List Piece) → is_directive (line_tokens g) ≡ false → summary
 is_run g h = ap (λ b. if b then Directive (line_tokens g) (solid g) else Run (solid g)) h
 
 joined_by : (b : Bool) (part gr : List Piece) (grs : List (List Piece)) (t : Token) (ts : List Token)
-  → is_directive (line_tokens gr) ≡ b → line_tokens part ≡ t ∷ ts → is_hash t ≡ false
-  → map summary (if b then part ∷ gr ∷ grs else (part ++ gr) ∷ grs) ≡ run_before (solid part) (map summary (gr ∷ grs))
+    → is_directive (line_tokens gr) ≡ b → line_tokens part ≡ t ∷ ts → is_hash t ≡ false
+    → map summary (if b then part ∷ gr ∷ grs else (part ++ gr) ∷ grs) ≡ run_before (solid part) (map summary (gr ∷ grs))
 joined_by true part gr grs t ts b_is part_is h =
     let e : summary gr ≡ Directive (line_tokens gr) (solid gr) = ap (λ b. if b then Directive (line_tokens gr) (solid gr) else Run (solid gr)) b_is in
     let f : summary part ≡ Run (solid part) = is_run part (ap is_directive part_is ∙ h) in
@@ -64,13 +64,13 @@ joined_by false part gr grs t ts b_is part_is h =
     rw (e, f, solid-append part gr) refl
 
 joined : (part : List Piece) (gs : List (List Piece)) (t : Token) (ts : List Token)
-  → line_tokens part ≡ t ∷ ts → is_hash t ≡ false → map summary (join_text part gs) ≡ run_before (solid part) (map summary gs)
+    → line_tokens part ≡ t ∷ ts → is_hash t ≡ false → map summary (join_text part gs) ≡ run_before (solid part) (map summary gs)
 joined part [] t ts part_is h = ap (λ s. s ∷ []) (is_run part (ap is_directive part_is ∙ h))
 joined part (gr ∷ grs) t ts part_is h = joined_by (is_directive (line_tokens gr)) part gr grs t ts refl part_is h
 
 before_by : (b : Bool) (part : List Piece) (gs : List (List Piece)) (t : Token) (ts : List Token)
-  → is_hash t ≡ b → line_tokens part ≡ t ∷ ts
-  → map summary (if b then part ∷ gs else join_text part gs)
+    → is_hash t ≡ b → line_tokens part ≡ t ∷ ts
+    → map summary (if b then part ∷ gs else join_text part gs)
     ≡ (if b then Directive (t ∷ ts) (solid part) ∷ map summary gs else run_before (solid part) (map summary gs))
 before_by true part gs t ts h part_is =
     let e : summary part ≡ Directive (line_tokens part) (solid part) = ap (λ b. if b then Directive (line_tokens part) (solid part) else Run (solid part)) (ap is_directive part_is ∙ h) in
@@ -78,7 +78,7 @@ before_by true part gs t ts h part_is =
 before_by false part gs t ts h part_is = joined part gs t ts part_is h
 
 before : (tokens : List Token) (part : List Piece) (gs : List (List Piece)) → line_tokens part ≡ tokens
-  → map summary (before_groups tokens part gs) ≡ line_before tokens (solid part) (map summary gs)
+    → map summary (before_groups tokens part gs) ≡ line_before tokens (solid part) (map summary gs)
 before [] part gs part_is = refl
 before (t ∷ ts) part gs part_is = before_by (is_hash t) part gs t ts refl part_is
 

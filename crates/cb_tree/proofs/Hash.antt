@@ -55,7 +55,7 @@ same_bytes ms p n e h =
     ap bytes_of h ∙ (sym (take-map (λ (m : Mark). m.byte) (length p.marks) ms) ∙ ap (λ x. take x (bytes_of ms)) (sym e))
 
 pub hash_next : (ms : List Mark) (k : TokenKind) (n : ℕ) → StandsFirst (bytes_of ms) (first.Piece (kinds.Token k) n)
-  → is_hash_text (take n (bytes_of ms)) ≡ true → (more : List Piece) → IsCut ms more → BeginsWithHash more
+    → is_hash_text (take n (bytes_of ms)) ≡ true → (more : List Piece) → IsCut ms more → BeginsWithHash more
 hash_next ms k n h hash [] cut =
     let e : length (bytes_of ms) ≡ 0 = ap (λ (x : List Mark). length (bytes_of x)) cut in
     absurd (omega (arith, some_bytes (bytes_of ms) (kinds.Token k) n h.1, h.1.within))
@@ -69,5 +69,5 @@ hash_next ms k n h hash (p ∷ ps) cut =
       marks = p.marks;
       behind = ps;
       more_is = ap (λ x. record { kind = x; marks = p.marks } ∷ ps) j.1;
-      hash = ap is_hash_text t ∙ hash
+      hash = ap is_hash_text t ∙ hash;
     }

@@ -6,3 +6,4 @@ pub mod BriefSteps
 pub mod Pieces
 pub mod ReadsMore
 pub mod Hash
+pub mod Runs

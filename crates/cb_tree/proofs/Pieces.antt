@@ -36,16 +36,16 @@ taken ms k n h =
 
 -- the piece at the front
 pub begins : (ms : List Mark) (k : PieceKind) (n : ℕ) → StandsFirst (bytes_of ms) (first.Piece k n)
-  → BeginsWith ms (record { kind = k; marks = take n ms })
+    → BeginsWith ms (record { kind = k; marks = take n ms })
 begins ms k n h =
     let e = taken ms k n h in
     record {
       first = (h.0, subst (λ x. IsFirst (bytes_of ms) k x) (sym e) h.1);
-      marks = ap (λ x. take x ms) (sym e)
+      marks = ap (λ x. take x ms) (sym e);
     }
 
 pub passes : (ms : List Mark) (k : PieceKind) (n : ℕ) → StandsFirst (bytes_of ms) (first.Piece k n)
-  → Cuts ms (record { kind = k; marks = take n ms } ∷ []) (drop n ms)
+    → Cuts ms (record { kind = k; marks = take n ms } ∷ []) (drop n ms)
 passes ms k n h = (begins ms k n h, ap (λ x. drop x ms) (taken ms k n h))
 
 -- no mark, no piece
@@ -56,7 +56,7 @@ cut_of_none (p ∷ ps) h =
     absurd (omega (arith, some_bytes [] p.kind (length p.marks) f, f.within))
 
 pub Cuts-trans : (ms : List Mark) (ps : List Piece) (rest : List Mark) (qs : List Piece) (end : List Mark)
-  → Cuts ms ps rest → Cuts rest qs end → Cuts ms (ps ++ qs) end
+    → Cuts ms ps rest → Cuts rest qs end → Cuts ms (ps ++ qs) end
 Cuts-trans ms [] rest qs end h g = subst (λ x. Cuts x qs end) (sym h) g
 Cuts-trans ms (p ∷ ps) rest qs end h g = (h.0, Cuts-trans (drop (length p.marks) ms) ps rest qs end h.1 g)
 

@@ -21,14 +21,14 @@ reads_none ms = record { pieces = []; cut = refl; nodes_are = λ more h. refl }
 
 -- one reading after another
 pub reads_on : (ms : List Mark) (ns : List Node) (mid : List Mark) (ns' : List Node) (rest : List Mark)
-  → Reads ms ns mid → Reads mid ns' rest → Reads ms (ns ++ ns') rest
+    → Reads ms ns mid → Reads mid ns' rest → Reads ms (ns ++ ns') rest
 reads_on ms ns mid ns' rest a b = record {
   pieces = a.pieces ++ b.pieces;
   cut = Cuts-trans ms a.pieces mid b.pieces rest a.cut b.cut;
   nodes_are = λ more h.
-    ap nodes_of (append_assoc a.pieces b.pieces more)
-    ∙ (a.nodes_are (b.pieces ++ more) (Cuts-trans mid b.pieces rest more [] b.cut h)
-    ∙ (ap (λ x. ns ++ x) (b.nodes_are more h) ∙ sym (append_assoc ns ns' (nodes_of more))))
+      ap nodes_of (append_assoc a.pieces b.pieces more)
+      ∙ (a.nodes_are (b.pieces ++ more) (Cuts-trans mid b.pieces rest more [] b.cut h)
+      ∙ (ap (λ x. ns ++ x) (b.nodes_are more h) ∙ sym (append_assoc ns ns' (nodes_of more))));
 }
 
 -- a fault met later is a fault of the whole
@@ -38,12 +38,12 @@ tells_after ms rest ns NoMemory a h = tt
 
 -- a piece that is no token, at the start of a line
 reads_as_nothing : (ms : List Mark) (k : PieceKind) (n : ℕ) → StandsFirst (bytes_of ms) (first.Piece k n)
-  → ((more : List Piece) → briefs_of (split_lines (record { kind = k; marks = take n ms } ∷ more)) ≡ briefs_of (split_lines more))
-  → Reads ms [] (drop n ms)
+    → ((more : List Piece) → briefs_of (split_lines (record { kind = k; marks = take n ms } ∷ more)) ≡ briefs_of (split_lines more))
+    → Reads ms [] (drop n ms)
 reads_as_nothing ms k n h same = record {
   pieces = record { kind = k; marks = take n ms } ∷ [];
   cut = passes ms k n h;
-  nodes_are = λ more g. in_brief (record { kind = k; marks = take n ms } ∷ more) ∙ (ap (map node_in_brief) (same more) ∙ sym (in_brief more))
+  nodes_are = λ more g. in_brief (record { kind = k; marks = take n ms } ∷ more) ∙ (ap (map node_in_brief) (same more) ∙ sym (in_brief more));
 }
 
 pub reads_blank : (ms : List Mark) (k : PieceKind) (n : ℕ) → StandsFirst (bytes_of ms) (first.Piece k n) → is_token k ≡ false → Reads ms [] (drop n ms)

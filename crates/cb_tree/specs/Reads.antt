@@ -92,7 +92,7 @@ pub record ReadsDirective (ms : List Mark) (tokens : List Token) (spaced : Bool)
   pub cut : Cuts ms pieces rest
   pub counted_are : counted ≡ lines_of marks
   pub nodes_are : (more : List Piece)
-    → nodes_of (pieces ++ more) ≡ map node_in_brief (directive_on tokens spaced marks (split_lines more))
+      → nodes_of (pieces ++ more) ≡ map node_in_brief (directive_on tokens spaced marks (split_lines more))
 
 -- the piece that stands next, or none at the end
 abbrev pub StandsNext : List Mark → Option Ahead → Type 0
@@ -103,3 +103,21 @@ StandsNext ms (Some next) = StandsFirst (bytes_of ms) (first.Piece next.kind nex
 abbrev pub StartsNext : List Mark → Option Start → Type 0
 StartsNext ms None = ms ≡ []
 StartsNext ms (Some start) = StandsFirst (bytes_of ms) (first.Piece (piece.Token start.kind) start.len)
+
+-- the node of a run of text with these counted lines
+abbrev pub text_node : List ℕ → Node
+text_node counted = record { kind = Text; tokens = []; counted = counted }
+
+-- the node of a directive with these tokens and counted lines
+abbrev pub directive_node : List Token → List ℕ → Node
+directive_node tokens counted = record { kind = kind_of tokens; tokens = tokens; counted = counted }
+
+-- a run goes on, or has ended and is a node
+abbrev pub RunGoes : List Mark → Option Place → List ℕ → List Mark → Type 0
+RunGoes ms None counted rest = Reads ms (text_node counted ∷ []) rest
+RunGoes ms (Some place) counted rest = ReadsRun ms place counted rest
+
+-- a directive goes on, with the white space before its next token, or has ended and is a node
+abbrev pub DirectiveGoes : List Mark → List Token → Option Bool → List ℕ → List Mark → Type 0
+DirectiveGoes ms tokens None counted rest = Reads ms (directive_node tokens counted ∷ []) rest
+DirectiveGoes ms tokens (Some spaced) counted rest = ReadsDirective ms tokens spaced counted rest

@@ -6,6 +6,7 @@ mod fault;
 mod kind;
 mod node;
 mod reading;
+mod run;
 mod sections;
 mod size;
 mod tree;

@@ -17,5 +17,5 @@ pieces-smaller c =
 pub pieces-preserved : goal.pieces-preserved
 pieces-preserved c =
     rw c.pass.ensures
-        (reads_on _ [] c.pieces.walk [] _ c.pieces.invariant
-            (reads_blank c.pieces.walk c.in-Some.piece.kind c.in-Some.piece.len (rw c.in-Some.is at c.in_ok-piece.ensures) c.in-None.ensures))
+    (reads_on _ [] c.pieces.walk [] _ c.pieces.invariant
+    (reads_blank c.pieces.walk c.in-Some.piece.kind c.in-Some.piece.len (rw c.in-Some.is at c.in_ok-piece.ensures) c.in-None.ensures))

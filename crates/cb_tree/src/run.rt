@@ -1,0 +1,103 @@
+//! Runs of text: logical lines with tokens that are no directive lines.
+ghost use Rattle.std.specs.Prelude.{ℕ, ◌≡◌, ◌<◌, ◌∷◌, [], List, length, take, true, false, IfOk, IfErr, OnOk, MatchOption};
+ghost use Rattle.std.specs.Bool.{OnTrue, OnFalse};
+ghost use Rattle.cb_lines.specs.declared.mark.Mark.{Mark};
+ghost use Rattle.cb_lines.specs.Marks.{bytes_of};
+ghost use Rattle.cb_tokens.specs.Cut.{StandsFirst};
+ghost use Rattle.cb_tokens.specs.declared.first.First.{First};
+ghost use Rattle.cb_tree.specs.Kinds.{is_hash_text};
+ghost use Rattle.cb_tree.specs.Reads.{Reads, ReadsRun, RunGoes, Tells, text_node};
+
+use crate::fault::BuildFault;
+use crate::kind::is_hash_text;
+use crate::reading::{Place, Start, look_ahead};
+use cb_lines::{Lines, Walk};
+use cb_tokens::PieceKind;
+use std::alloc::Global;
+
+/// Whether a run ends before a token of these bytes: a directive begins with it.
+fn ends_before(place: Place, text: &[u8]) -> bool
+    ensures ends { OnTrue result (place ≡ Place.LineStart) }
+    ensures hash { OnTrue result (is_hash_text text.now ≡ true) }
+    ensures goes { OnFalse result (place ≡ Place.LineStart → is_hash_text text.now ≡ false) }
+{
+    match place {
+        Place::LineStart => is_hash_text(text),
+        Place::InLine => false,
+    }
+}
+
+/// Reads a token of a run, unless a directive begins with it.
+fn pass_token(
+    walk: &mut Walk,
+    counted: &mut Lines,
+    place: Place,
+    token: Start,
+) -> Result<Option<Place>, BuildFault>
+    requires { StandsFirst (bytes_of walk.old) (First.Piece (PieceKind.Token token.kind) token.len) }
+    ensures goes { IfOk result (λ next. (ms : List Mark) → ReadsRun ms place counted.old walk.old → RunGoes ms next counted.new walk.new) }
+    ensures shorter { IfOk result (λ next. MatchOption next (walk.new ≡ walk.old) (λ _. length walk.new < length walk.old)) }
+    ensures tells { IfErr result (Tells walk.old) }
+{
+    let text = &walk.rest()[..token.len];
+    if ends_before(place, text) {
+        return Ok(None);
+    }
+    walk.pass_counted(token.len, counted)?;
+    Ok(Some(Place::InLine))
+}
+
+/// Reads one piece of a run, and answers where the run goes on, or none where it has ended.
+fn pass_piece(
+    walk: &mut Walk,
+    counted: &mut Lines,
+    place: Place,
+) -> Result<Option<Place>, BuildFault>
+    ensures goes { IfOk result (λ next. (ms : List Mark) → ReadsRun ms place counted.old walk.old → RunGoes ms next counted.new walk.new) }
+    ensures shorter { IfOk result (λ next. MatchOption next (walk.new ≡ walk.old) (λ _. length walk.new < length walk.old)) }
+    ensures tells { IfErr result (Tells walk.old) }
+{
+    match look_ahead(walk)? {
+        None => Ok(None),
+        Some(piece) => match piece.kind {
+            PieceKind::White => {
+                walk.pass(piece.len);
+                Ok(Some(place))
+            }
+            PieceKind::Comment => {
+                walk.pass(piece.len);
+                Ok(Some(place))
+            }
+            PieceKind::LineEnd => {
+                walk.pass(piece.len);
+                Ok(Some(Place::LineStart))
+            }
+            PieceKind::Token(kind) => {
+                let token = Start {
+                    kind,
+                    len: piece.len,
+                };
+                pass_token(walk, counted, place, token)
+            }
+        },
+    }
+}
+
+/// Reads a run of text from its first token on, and answers its counted lines.
+pub(crate) fn read_run(alloc: Global, walk: &mut Walk, token: Start) -> Result<Lines, BuildFault>
+    requires stands { StandsFirst (bytes_of walk.old) (First.Piece (PieceKind.Token token.kind) token.len) }
+    requires text { is_hash_text (take token.len (bytes_of walk.old)) ≡ false }
+    ensures reads { IfOk result (λ counted. Reads walk.old (text_node counted ∷ []) walk.new) }
+    ensures shorter { OnOk result (length walk.new < length walk.old) }
+    ensures tells { IfErr result (Tells walk.old) }
+{
+    let mut counted = Lines::new(alloc);
+    walk.pass_counted(token.len, &mut counted)?;
+    let mut place = Place::InLine;
+    'pieces: loop {
+        match pass_piece(walk, &mut counted, place)? {
+            Some(next) => place = next,
+            None => return Ok(counted),
+        }
+    }
+}
