@@ -7,3 +7,4 @@ pub mod Pieces
 pub mod ReadsMore
 pub mod Hash
 pub mod Runs
+pub mod Directives

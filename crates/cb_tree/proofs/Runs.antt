@@ -82,7 +82,7 @@ pub run_token : (ms : List Mark) (counted : List ℕ) (rest : List Mark) (j : To
 run_token ms counted rest j n h run =
     run_piece ms InLine InLine counted rest (kinds.Token j) n h run (λ marks more. run_goes (kinds.Token j) (take n rest) marks (split_lines more))
 
-same_text : (n : ℕ) (rest : List Mark) → bytes_of (take n rest) ≡ take n (bytes_of rest)
+pub same_text : (n : ℕ) (rest : List Mark) → bytes_of (take n rest) ≡ take n (bytes_of rest)
 same_text n rest = sym (take-map (λ (m : Mark). m.byte) n rest)
 
 pub run_first_token : (ms : List Mark) (counted : List ℕ) (rest : List Mark) (j : TokenKind) (n : ℕ)

@@ -13,6 +13,7 @@ use Rattle.cb_tree.specs.declared.fault.SourceKind.TheVariants as kind
 use Rattle.cb_tree.specs.declared.fault.BadSource.{BadSource}
 use Rattle.cb_tree.specs.declared.fault.BuildFault.{BuildFault}
 use Rattle.cb_tree.specs.declared.fault.BuildFault.TheVariants.{Bad, NoMemory}
+use Rattle.cb_tree.specs.declared.node.NodeData.{NodeData}
 use Rattle.cb_tree.specs.declared.node.NodeKind.TheVariants.{Text}
 use Rattle.cb_tree.specs.declared.reading.Ahead.{Ahead}
 use Rattle.cb_tree.specs.declared.reading.Start.{Start}
@@ -121,3 +122,7 @@ RunGoes ms (Some place) counted rest = ReadsRun ms place counted rest
 abbrev pub DirectiveGoes : List Mark → List Token → Option Bool → List ℕ → List Mark → Type 0
 DirectiveGoes ms tokens None counted rest = Reads ms (directive_node tokens counted ∷ []) rest
 DirectiveGoes ms tokens (Some spaced) counted rest = ReadsDirective ms tokens spaced counted rest
+
+-- a node as contracts see it
+abbrev pub node_value : NodeData → Node
+node_value n = record { kind = n.kind; tokens = n.tokens.items; counted = n.counted }

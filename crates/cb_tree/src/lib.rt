@@ -2,6 +2,7 @@
 #![tactic(auto)]
 
 mod building;
+mod directive;
 mod fault;
 mod kind;
 mod node;

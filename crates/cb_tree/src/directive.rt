@@ -1,0 +1,84 @@
+//! Directive lines: logical lines whose first token is `#` or `%:`.
+ghost use Rattle.std.specs.Prelude.{ℕ, ◌≡◌, ◌<◌, ◌≤◌, ◌∷◌, ◌++◌, [], List, length, take, true, IfOk, IfErr, OnOk, MatchOption};
+ghost use Rattle.cb_lines.specs.declared.mark.Mark.{Mark};
+ghost use Rattle.cb_lines.specs.Marks.{bytes_of};
+ghost use Rattle.cb_tokens.specs.Cut.{StandsFirst};
+ghost use Rattle.cb_tokens.specs.declared.first.First.{First};
+ghost use Rattle.cb_tree.specs.Kinds.{is_hash_text};
+ghost use Rattle.cb_tree.specs.Reads.{Reads, ReadsDirective, DirectiveGoes, Tells, node_value};
+
+use crate::fault::BuildFault;
+use crate::kind::kind_of;
+use crate::node::NodeData;
+use crate::reading::{Start, look_ahead};
+use cb_lines::{Lines, Walk};
+use cb_paths::{Bytes, NoMemory};
+use cb_tokens::{PieceKind, Token, TokenKind};
+use std::alloc::Global;
+
+/// Keeps a token of these bytes.
+fn keep_token(alloc: Global, tokens: &mut Vec<Token>, kind: TokenKind, text: &[u8], spaced: bool) -> Result<(), NoMemory>
+    ensures { OnOk result (tokens.new.items ≡ tokens.old.items ++ record { kind = kind; text = text.now; spaced = spaced } ∷ []) }
+{
+    let text = Bytes::from_slice(alloc, text)?;
+    tokens.push(Token { kind, text, spaced })?;
+    Ok(())
+}
+
+/// Reads one piece of a directive line, and answers whether the next token is spaced, or none where the line has ended.
+fn pass_piece(alloc: Global, walk: &mut Walk, tokens: &mut Vec<Token>, counted: &mut Lines, spaced: bool) -> Result<Option<bool>, BuildFault>
+    ensures goes { IfOk result (λ next. (ms : List Mark)
+        → ReadsDirective ms tokens.old.items spaced counted.old walk.old → DirectiveGoes ms tokens.new.items next counted.new walk.new) }
+    ensures shorter { IfOk result (λ next. MatchOption next (length walk.new ≤ length walk.old) (λ _. length walk.new < length walk.old)) }
+    ensures tells { IfErr result (Tells walk.old) }
+{
+    match look_ahead(walk)? {
+        None => Ok(None),
+        Some(piece) => match piece.kind {
+            PieceKind::White => {
+                walk.pass(piece.len);
+                Ok(Some(true))
+            }
+            PieceKind::Comment => {
+                walk.pass(piece.len);
+                Ok(Some(true))
+            }
+            PieceKind::LineEnd => {
+                walk.pass(piece.len);
+                Ok(None)
+            }
+            PieceKind::Token(kind) => {
+                keep_token(alloc, tokens, kind, &walk.rest()[..piece.len], spaced)?;
+                walk.pass_counted(piece.len, counted)?;
+                Ok(Some(false))
+            }
+        },
+    }
+}
+
+/// Reads a directive line from its `#` on.
+pub(crate) fn read_directive(alloc: Global, walk: &mut Walk, token: Start) -> Result<NodeData, BuildFault>
+    requires stands { StandsFirst (bytes_of walk.old) (First.Piece (PieceKind.Token token.kind) token.len) }
+    requires hash { is_hash_text (take token.len (bytes_of walk.old)) ≡ true }
+    ensures reads { IfOk result (λ node. Reads walk.old (node_value node ∷ []) walk.new) }
+    ensures shorter { OnOk result (length walk.new < length walk.old) }
+    ensures tells { IfErr result (Tells walk.old) }
+{
+    let mut tokens = Vec::new(alloc);
+    let mut counted = Lines::new(alloc);
+    keep_token(alloc, &mut tokens, token.kind, &walk.rest()[..token.len], false)?;
+    walk.pass_counted(token.len, &mut counted)?;
+    let mut spaced = false;
+    'pieces: loop {
+        match pass_piece(alloc, walk, &mut tokens, &mut counted, spaced)? {
+            Some(next) => spaced = next,
+            None => break,
+        }
+    }
+    let kind = kind_of(tokens.as_slice());
+    Ok(NodeData {
+        kind,
+        tokens,
+        counted,
+    })
+}
