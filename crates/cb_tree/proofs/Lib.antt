@@ -8,3 +8,4 @@ pub mod ReadsMore
 pub mod Hash
 pub mod Runs
 pub mod Directives
+pub mod NodeSteps

@@ -1,5 +1,5 @@
 -- What the private steps of reading a source's nodes say. No public clause names these words.
-use Rattle.std.specs.Prelude.{◌≡◌, ℕ, Bool, true, false, if◌then◌else◌, List, [], ◌∷◌, ◌++◌, map, Option, Some, None}
+use Rattle.std.specs.Prelude.{◌≡◌, ◌⊎◌, ℕ, ◌<◌, ◌≤◌, Bool, true, false, if◌then◌else◌, List, [], ◌∷◌, ◌++◌, length, map, Option, Some, None}
 use Rattle.std.specs.List.{flat_map}
 use Rattle.cb_lines.specs.declared.mark.Mark.{Mark}
 use Rattle.cb_lines.specs.Marks.{bytes_of}
@@ -21,6 +21,7 @@ use Rattle.cb_tree.specs.declared.reading.Place.{Place}
 use Rattle.cb_tree.specs.declared.reading.Place.TheVariants.{LineStart, InLine}
 use Rattle.cb_tree.specs.Kinds.{is_hash, kind_of}
 use Rattle.cb_tree.specs.Nodes.{Node, nodes_of}
+use Rattle.cb_tree.specs.Sections.{first_fault}
 
 -- pieces lead from some marks to others, and their nodes come before those of whatever cut follows
 pub record Reads (ms : List Mark) (nodes : List Node) (rest : List Mark) : Type 0 where
@@ -126,3 +127,23 @@ DirectiveGoes ms tokens (Some spaced) counted rest = ReadsDirective ms tokens sp
 -- a node as contracts see it
 abbrev pub node_value : NodeData → Node
 node_value n = record { kind = n.kind; tokens = n.tokens.items; counted = n.counted }
+
+-- the next node is read, or the source has ended
+abbrev pub ReadsNode : List Mark → List Mark → Option NodeData → Type 0
+ReadsNode ms rest None = Reads ms [] rest × (rest ≡ [])
+ReadsNode ms rest (Some node) = Reads ms (node_value node ∷ []) rest × (length rest < length ms)
+
+-- the rest of a source is read after a node's fault, which an open comment behind it overrules
+abbrev pub ReadsOut : List Mark → BuildFault → BuildFault → Type 0
+ReadsOut ms fault result = ((result ≡ fault) × (nodes : List Node) × Reads ms nodes []) ⊎ Tells ms result
+
+-- the marks have the fault: an open comment, or the first fault of their nodes
+abbrev pub Refuses : List Mark → BuildFault → Type 0
+Refuses ms NoMemory = Unit {0}
+Refuses ms (Bad fault) = Tells ms (Bad fault) ⊎ ((nodes : List Node) × Reads ms nodes [] × (first_fault nodes [] ≡ Some fault))
+
+-- these are the nodes of the marks, and they have no fault
+pub record AreSound (ms : List Mark) (nodes : List Node) : Type 0 where
+  pub reads : Reads ms nodes []
+  pub no_fault : first_fault nodes [] ≡ None
+  pub few : length nodes ≤ length ms

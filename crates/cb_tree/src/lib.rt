@@ -9,6 +9,7 @@ mod node;
 mod reading;
 mod run;
 mod sections;
+mod sequence;
 mod size;
 mod tree;
 

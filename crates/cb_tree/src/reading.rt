@@ -42,7 +42,7 @@ pub(crate) fn look_ahead(walk: &Walk) -> Result<Option<Ahead>, BuildFault>
     if bytes.is_empty() {
         return Ok(None);
     }
-    match first_piece(bytes)? {
+    match first_piece(bytes) {
         First::Piece { kind, len } => Ok(Some(Ahead { kind, len })),
         First::OpenComment => Err(BuildFault::Bad(BadSource {
             kind: SourceKind::OpenComment,

@@ -25,12 +25,12 @@ impl Model for Tree {
 
     ghost view = { λ t. map (λ n. record { kind = n.kind; tokens = n.tokens.items; counted = n.counted }) t.nodes.items };
 
-    ghost invariant = { λ t. length t.nodes.items ≤ 200000 };
+    ghost invariant = { λ t. length t.nodes.items ≤ 4194304 };
 }
 
 /// The least number of spans; 0 where there is none.
 #[tactic(auto, using(crate::proofs::Spans::first_of_spans))]
-fn first_line(spans: &[Span]) -> u32
+pub(crate) fn first_line(spans: &[Span]) -> u32
     requires { AreMaximal spans.now }
     ensures { result ≡ first_of (flat_map span_lines spans.now) }
 {
