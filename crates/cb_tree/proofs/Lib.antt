@@ -9,3 +9,6 @@ pub mod Hash
 pub mod Runs
 pub mod Directives
 pub mod NodeSteps
+pub mod OneReading
+pub mod Built
+pub mod Bones

@@ -1,6 +1,6 @@
 -- A run of text, piece by piece.
-use Rattle.std.proofs.Common.{◌≡◌, ℕ, true, false, List, [], ◌∷◌, ◌++◌, length, take, drop, map, refl, ap, sym, subst, ◌∙◌, append_assoc}
-use Rattle.std.proofs.lemmas.List.{append-nil, take-map}
+use Rattle.std.proofs.Common.{◌≡◌, ℕ, ◌+◌, ◌≤◌, ◌==◌, Bool, nat_lt, if◌then◌else◌, arith, length-drop, true, false, List, [], ◌∷◌, ◌++◌, length, take, drop, map, refl, ap, sym, subst, ◌∙◌, append_assoc}
+use Rattle.std.proofs.lemmas.List.{append-nil, take-map, length-take-le}
 use Rattle.cb_lines.specs.declared.mark.Mark.{Mark}
 use Rattle.cb_lines.specs.Marks.{bytes_of}
 use Rattle.cb_lines.specs.Lines.{with_line, with_lines, lines_of}
@@ -158,3 +158,25 @@ pub run_tells : (ms : List Mark) (place : Place) (counted : List ℕ) (rest : Li
     → ReadsRun ms place counted rest → Tells rest fault → Tells ms fault
 run_tells ms place counted rest (Bad fault) run h = (h.0, open_after ms run.pieces rest fault.line run.cut h.1)
 run_tells ms place counted rest NoMemory run h = tt
+
+-- each mark adds one line at most
+one_line_by : (below same : Bool) (line l : ℕ) (ls : List ℕ) → length (with_line line ls) ≤ length ls + 1
+    → length (if below then line ∷ l ∷ ls else (if same then l ∷ ls else l ∷ with_line line ls)) ≤ length (l ∷ ls) + 1
+one_line_by true same line l ls h = omega arith
+one_line_by false true line l ls h = omega arith
+one_line_by false false line l ls h = omega arith
+
+one_line : (line : ℕ) (set : List ℕ) → length (with_line line set) ≤ length set + 1
+one_line line [] = omega arith
+one_line line (l ∷ ls) = one_line_by (nat_lt line l) (line == l) line l ls (one_line line ls)
+
+few_lines : (ms : List Mark) (set : List ℕ) → length (with_lines ms set) ≤ length set + length ms
+few_lines [] set = omega arith
+few_lines (m ∷ ms) set = omega (arith, few_lines ms (with_line m.line set), one_line m.line set)
+
+pub kept_few : (n : ℕ) (rest : List Mark) (set : List ℕ) → n ≤ length rest
+    → length (with_lines (take n rest) set) + length (drop n rest) ≤ length set + length rest
+kept_few n rest set h = omega (arith, few_lines (take n rest) set, length-take-le n rest h, length-drop n rest)
+
+pub start_few : (n : ℕ) (rest : List Mark) → n ≤ length rest → length (with_lines (take n rest) []) + length (drop n rest) ≤ length rest
+start_few n rest h = omega (arith, kept_few n rest [] h)

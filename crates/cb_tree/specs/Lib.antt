@@ -3,3 +3,5 @@ pub mod Nodes
 pub mod Sections
 pub mod Sound
 pub mod Reads
+pub mod Trees
+pub mod Skeleton

@@ -1,5 +1,6 @@
 -- The nodes of a source: its directive lines, and the maximal runs of its other logical lines with tokens (6.10).
-use Rattle.std.specs.Prelude.{ℕ, if◌then◌else◌, List, [], ◌∷◌, ◌++◌, map}
+use Rattle.std.specs.Prelude.{ℕ, if◌then◌else◌, List, [], ◌∷◌, ◌++◌, length, map}
+use Rattle.std.specs.List.{sum_by}
 use Rattle.cb_tokens.specs.declared.token.Token.{Token}
 use Rattle.cb_tokens.specs.Cut.{Piece}
 use Rattle.cb_tokens.specs.Logical.{split_lines, line_tokens, counted_lines}
@@ -25,6 +26,10 @@ node_line n = first_of n.counted
 -- the tokens of a node behind its directive's name; none of text (6.10)
 abbrev pub node_rest : Node → List Token
 node_rest n = rest_of n.tokens
+
+-- the number of the counted lines of all nodes (own)
+abbrev pub total_lines : List Node → ℕ
+total_lines nodes = sum_by (λ n. length n.counted) nodes
 
 -- a logical line of text joins the run of text that follows it directly
 abbrev pub join_text : List Piece → List (List Piece) → List (List Piece)

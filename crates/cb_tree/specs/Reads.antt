@@ -1,5 +1,5 @@
 -- What the private steps of reading a source's nodes say. No public clause names these words.
-use Rattle.std.specs.Prelude.{◌≡◌, ◌⊎◌, ℕ, ◌<◌, ◌≤◌, Bool, true, false, if◌then◌else◌, List, [], ◌∷◌, ◌++◌, length, map, Option, Some, None}
+use Rattle.std.specs.Prelude.{◌≡◌, ◌⊎◌, ℕ, ◌+◌, ◌<◌, ◌≤◌, Bool, true, false, if◌then◌else◌, List, [], ◌∷◌, ◌++◌, length, map, Option, Some, None}
 use Rattle.std.specs.List.{flat_map}
 use Rattle.cb_lines.specs.declared.mark.Mark.{Mark}
 use Rattle.cb_lines.specs.Marks.{bytes_of}
@@ -20,8 +20,9 @@ use Rattle.cb_tree.specs.declared.reading.Start.{Start}
 use Rattle.cb_tree.specs.declared.reading.Place.{Place}
 use Rattle.cb_tree.specs.declared.reading.Place.TheVariants.{LineStart, InLine}
 use Rattle.cb_tree.specs.Kinds.{is_hash, kind_of}
-use Rattle.cb_tree.specs.Nodes.{Node, nodes_of}
+use Rattle.cb_tree.specs.Nodes.{Node, nodes_of, total_lines}
 use Rattle.cb_tree.specs.Sections.{first_fault}
+use Rattle.cb_tree.specs.Sound.{IsRead, Unsound}
 
 -- pieces lead from some marks to others, and their nodes come before those of whatever cut follows
 pub record Reads (ms : List Mark) (nodes : List Node) (rest : List Mark) : Type 0 where
@@ -131,7 +132,8 @@ node_value n = record { kind = n.kind; tokens = n.tokens.items; counted = n.coun
 -- the next node is read, or the source has ended
 abbrev pub ReadsNode : List Mark → List Mark → Option NodeData → Type 0
 ReadsNode ms rest None = Reads ms [] rest × (rest ≡ [])
-ReadsNode ms rest (Some node) = Reads ms (node_value node ∷ []) rest × (length rest < length ms)
+ReadsNode ms rest (Some node) =
+    Reads ms (node_value node ∷ []) rest × (length rest < length ms) × (length node.counted + length rest ≤ length ms)
 
 -- the rest of a source is read after a node's fault, which an open comment behind it overrules
 abbrev pub ReadsOut : List Mark → BuildFault → BuildFault → Type 0
@@ -147,3 +149,9 @@ pub record AreSound (ms : List Mark) (nodes : List Node) : Type 0 where
   pub reads : Reads ms nodes []
   pub no_fault : first_fault nodes [] ≡ None
   pub few : length nodes ≤ length ms
+  pub few_lines : total_lines nodes ≤ length ms
+
+-- the source has the fault
+abbrev pub IsReadAs : List ℕ → BuildFault → Type 0
+IsReadAs source NoMemory = Unit {0}
+IsReadAs source (Bad fault) = IsRead source (Unsound fault)

@@ -1,5 +1,5 @@
 //! Directive lines: logical lines whose first token is `#` or `%:`.
-ghost use Rattle.std.specs.Prelude.{ℕ, ◌≡◌, ◌<◌, ◌≤◌, ◌∷◌, ◌++◌, [], List, length, take, true, IfOk, IfErr, OnOk, MatchOption};
+ghost use Rattle.std.specs.Prelude.{ℕ, ◌≡◌, ◌+◌, ◌<◌, ◌≤◌, ◌∷◌, ◌++◌, [], List, length, take, true, IfOk, IfErr, OnOk, MatchOption};
 ghost use Rattle.cb_lines.specs.declared.mark.Mark.{Mark};
 ghost use Rattle.cb_lines.specs.Marks.{bytes_of};
 ghost use Rattle.cb_tokens.specs.Cut.{StandsFirst};
@@ -17,7 +17,13 @@ use cb_tokens::{PieceKind, Token, TokenKind};
 use std::alloc::Global;
 
 /// Keeps a token of these bytes.
-fn keep_token(alloc: Global, tokens: &mut Vec<Token>, kind: TokenKind, text: &[u8], spaced: bool) -> Result<(), NoMemory>
+fn keep_token(
+    alloc: Global,
+    tokens: &mut Vec<Token>,
+    kind: TokenKind,
+    text: &[u8],
+    spaced: bool,
+) -> Result<(), NoMemory>
     ensures { OnOk result (tokens.new.items ≡ tokens.old.items ++ record { kind = kind; text = text.now; spaced = spaced } ∷ []) }
 {
     let text = Bytes::from_slice(alloc, text)?;
@@ -26,10 +32,17 @@ fn keep_token(alloc: Global, tokens: &mut Vec<Token>, kind: TokenKind, text: &[u
 }
 
 /// Reads one piece of a directive line, and answers whether the next token is spaced, or none where the line has ended.
-fn pass_piece(alloc: Global, walk: &mut Walk, tokens: &mut Vec<Token>, counted: &mut Lines, spaced: bool) -> Result<Option<bool>, BuildFault>
+fn pass_piece(
+    alloc: Global,
+    walk: &mut Walk,
+    tokens: &mut Vec<Token>,
+    counted: &mut Lines,
+    spaced: bool,
+) -> Result<Option<bool>, BuildFault>
     ensures goes { IfOk result (λ next. (ms : List Mark)
         → ReadsDirective ms tokens.old.items spaced counted.old walk.old → DirectiveGoes ms tokens.new.items next counted.new walk.new) }
     ensures shorter { IfOk result (λ next. MatchOption next (length walk.new ≤ length walk.old) (λ _. length walk.new < length walk.old)) }
+    ensures few { OnOk result (length counted.new + length walk.new ≤ length counted.old + length walk.old) }
     ensures tells { IfErr result (Tells walk.old) }
 {
     match look_ahead(walk)? {
@@ -57,16 +70,27 @@ fn pass_piece(alloc: Global, walk: &mut Walk, tokens: &mut Vec<Token>, counted: 
 }
 
 /// Reads a directive line from its `#` on.
-pub(crate) fn read_directive(alloc: Global, walk: &mut Walk, token: Start) -> Result<NodeData, BuildFault>
+pub(crate) fn read_directive(
+    alloc: Global,
+    walk: &mut Walk,
+    token: Start,
+) -> Result<NodeData, BuildFault>
     requires stands { StandsFirst (bytes_of walk.old) (First.Piece (PieceKind.Token token.kind) token.len) }
     requires hash { is_hash_text (take token.len (bytes_of walk.old)) ≡ true }
     ensures reads { IfOk result (λ node. Reads walk.old (node_value node ∷ []) walk.new) }
     ensures shorter { OnOk result (length walk.new < length walk.old) }
+    ensures few { IfOk result (λ node. length node.counted + length walk.new ≤ length walk.old) }
     ensures tells { IfErr result (Tells walk.old) }
 {
     let mut tokens = Vec::new(alloc);
     let mut counted = Lines::new(alloc);
-    keep_token(alloc, &mut tokens, token.kind, &walk.rest()[..token.len], false)?;
+    keep_token(
+        alloc,
+        &mut tokens,
+        token.kind,
+        &walk.rest()[..token.len],
+        false,
+    )?;
     walk.pass_counted(token.len, &mut counted)?;
     let mut spaced = false;
     'pieces: loop {

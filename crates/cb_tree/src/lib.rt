@@ -11,9 +11,10 @@ mod run;
 mod sections;
 mod sequence;
 mod size;
+mod skeleton;
 mod tree;
 
-pub use building::build;
+pub use building::{build, one_reading};
 pub use fault::{BadSource, BuildFault, SourceKind};
 pub use node::NodeKind;
 pub use tree::Tree;

@@ -1,5 +1,5 @@
 //! Runs of text: logical lines with tokens that are no directive lines.
-ghost use Rattle.std.specs.Prelude.{ℕ, ◌≡◌, ◌<◌, ◌∷◌, [], List, length, take, true, false, IfOk, IfErr, OnOk, MatchOption};
+ghost use Rattle.std.specs.Prelude.{ℕ, ◌≡◌, ◌+◌, ◌<◌, ◌≤◌, ◌∷◌, [], List, length, take, true, false, IfOk, IfErr, OnOk, MatchOption};
 ghost use Rattle.std.specs.Bool.{OnTrue, OnFalse};
 ghost use Rattle.cb_lines.specs.declared.mark.Mark.{Mark};
 ghost use Rattle.cb_lines.specs.Marks.{bytes_of};
@@ -37,6 +37,7 @@ fn pass_token(
     requires { StandsFirst (bytes_of walk.old) (First.Piece (PieceKind.Token token.kind) token.len) }
     ensures goes { IfOk result (λ next. (ms : List Mark) → ReadsRun ms place counted.old walk.old → RunGoes ms next counted.new walk.new) }
     ensures shorter { IfOk result (λ next. MatchOption next (walk.new ≡ walk.old) (λ _. length walk.new < length walk.old)) }
+    ensures few { OnOk result (length counted.new + length walk.new ≤ length counted.old + length walk.old) }
     ensures tells { IfErr result (Tells walk.old) }
 {
     let text = &walk.rest()[..token.len];
@@ -55,6 +56,7 @@ fn pass_piece(
 ) -> Result<Option<Place>, BuildFault>
     ensures goes { IfOk result (λ next. (ms : List Mark) → ReadsRun ms place counted.old walk.old → RunGoes ms next counted.new walk.new) }
     ensures shorter { IfOk result (λ next. MatchOption next (walk.new ≡ walk.old) (λ _. length walk.new < length walk.old)) }
+    ensures few { OnOk result (length counted.new + length walk.new ≤ length counted.old + length walk.old) }
     ensures tells { IfErr result (Tells walk.old) }
 {
     match look_ahead(walk)? {
@@ -89,6 +91,7 @@ pub(crate) fn read_run(alloc: Global, walk: &mut Walk, token: Start) -> Result<L
     requires text { is_hash_text (take token.len (bytes_of walk.old)) ≡ false }
     ensures reads { IfOk result (λ counted. Reads walk.old (text_node counted ∷ []) walk.new) }
     ensures shorter { OnOk result (length walk.new < length walk.old) }
+    ensures few { IfOk result (λ counted. length counted + length walk.new ≤ length walk.old) }
     ensures tells { IfErr result (Tells walk.old) }
 {
     let mut counted = Lines::new(alloc);

@@ -1,8 +1,9 @@
 //! The limits on the size of a source.
 ghost use Rattle.std.specs.Prelude.{◌≡◌, ◌+◌, ◌≤◌, ◌<◌, length, MatchResult};
-ghost use Rattle.cb_tree.specs.Sound.{IsWithinLimits, IsRead, Unsound, ends_open, line_count};
+ghost use Rattle.cb_tree.specs.Sound.{IsWithinLimits, ends_open, line_count};
+ghost use Rattle.cb_tree.specs.Reads.{IsReadAs};
 
-use crate::fault::{BadSource, SourceKind};
+use crate::fault::{BadSource, BuildFault, SourceKind};
 use cb_paths::{SOURCE_BYTE_LIMIT, SOURCE_LINE_LIMIT};
 
 /// Whether a last line without a line end stands at the end.
@@ -23,20 +24,20 @@ fn line_count(source: &[u8]) -> usize
 }
 
 /// Refuses a source of too many bytes or lines.
-pub(crate) fn check_size(source: &[u8]) -> Result<(), BadSource>
-    ensures { MatchResult result (λ _. IsWithinLimits source.now) (λ fault. IsRead source.now (Unsound fault)) }
+pub(crate) fn check_size(source: &[u8]) -> Result<(), BuildFault>
+    ensures { MatchResult result (λ _. IsWithinLimits source.now) (IsReadAs source.now) }
 {
     if source.len() > SOURCE_BYTE_LIMIT {
-        return Err(BadSource {
+        return Err(BuildFault::Bad(BadSource {
             kind: SourceKind::TooLarge,
             line: 0,
-        });
+        }));
     }
     if line_count(source) > SOURCE_LINE_LIMIT as usize {
-        return Err(BadSource {
+        return Err(BuildFault::Bad(BadSource {
             kind: SourceKind::TooLarge,
             line: SOURCE_LINE_LIMIT + 1,
-        });
+        }));
     }
     Ok(())
 }

@@ -1,12 +1,14 @@
 //! The tree of a source.
-ghost use Rattle.std.specs.Prelude.{◌≡◌, ◌<◌, ◌≤◌, ◌-◌, length, slice_get, Some};
+ghost use Rattle.std.specs.Prelude.{◌≡◌, ◌<◌, ◌≤◌, ◌-◌, length, slice_get, Some, ◌↔◌, IsTrue};
 ghost use Rattle.std.specs.Option.{option_map};
 ghost use Rattle.std.specs.List.{flat_map};
 ghost use Rattle.cb_lines.specs.Lines.{AreMaximal, span_lines};
-ghost use Rattle.cb_tree.specs.Nodes.{node_line, node_rest, first_of};
+ghost use Rattle.cb_tree.specs.Nodes.{node_line, node_rest, first_of, total_lines};
+ghost use Rattle.cb_tree.specs.Skeleton.{skeleton};
 
 use crate::kind;
 use crate::node::{NodeData, NodeKind};
+use crate::skeleton::are_same_bones;
 use cb_lines::{Lines, Span};
 use cb_tokens::Token;
 use std::marker::Model;
@@ -15,17 +17,21 @@ use std::marker::Model;
 #[derive(Drop)]
 pub struct Tree {
     pub(crate) nodes: Vec<NodeData>,
+    pub(crate) total: u64,
 }
 
 impl Model for Tree {
-    ghost use Rattle.std.specs.Prelude.{List, map, ◌≤◌, length};
+    ghost use Rattle.std.specs.Prelude.{List, map};
     ghost use Rattle.cb_tree.specs.Nodes.{Node};
 
     ghost Value = { List Node };
 
-    ghost view = { λ t. map (λ n. record { kind = n.kind; tokens = n.tokens.items; counted = n.counted }) t.nodes.items };
+    ghost use Rattle.cb_tree.specs.Reads.{node_value};
+    ghost use Rattle.cb_tree.specs.Trees.{IsKept};
 
-    ghost invariant = { λ t. length t.nodes.items ≤ 4194304 };
+    ghost view = { λ t. map node_value t.nodes.items };
+
+    ghost invariant = { λ t. IsKept t.nodes.items t.total };
 }
 
 /// The least number of spans; 0 where there is none.
@@ -43,6 +49,20 @@ impl Tree {
         ensures { result ≡ length self.now }
     {
         self.nodes.len() as u32
+    }
+
+    /// The number of the counted lines of all nodes together.
+    pub fn total(&self) -> u64
+        ensures { result ≡ total_lines self.now }
+    {
+        self.total
+    }
+
+    /// Whether the nodes of two trees agree in kinds and, where they are directives, in all tokens.
+    pub fn same_skeleton(&self, other: &Tree) -> bool
+        ensures { IsTrue result ↔ (skeleton self.now ≡ skeleton other.now) }
+    {
+        are_same_bones(self.nodes.as_slice(), other.nodes.as_slice())
     }
 
     /// The kind of a node.

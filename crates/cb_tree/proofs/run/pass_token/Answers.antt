@@ -1,8 +1,8 @@
 use Rattle.std.proofs.Common.{◌≡◌, ap, ◌∙◌}
 use Rattle.cb_tree.specs.Kinds.{is_hash_text}
-use Rattle.cb_tree.proofs.Pieces.{shorter}
+use Rattle.cb_tree.proofs.Pieces.{shorter, within}
 use Rattle.cb_tokens.specs.declared.token.PieceKind.TheVariants as kinds
-use Rattle.cb_tree.proofs.Runs.{run_ends_at, run_any_token, front_bytes}
+use Rattle.cb_tree.proofs.Runs.{run_ends_at, run_any_token, front_bytes, kept_few}
 use Rattle.cb_tree.proofs.run.pass_token.Goals as goal
 
 pub returns-then-ends_before-clause-goes : goal.returns-then-ends_before-clause-goes
@@ -19,3 +19,8 @@ returns-clause-goes c = λ ms run.
 pub returns-clause-shorter : goal.returns-clause-shorter
 returns-clause-shorter c =
     rw c.in_ok-pass_counted.ensures.passed (shorter c.args.walk.now (kinds.Token c.args.token.kind) c.args.token.len c.requires)
+
+pub returns-clause-few : goal.returns-clause-few
+returns-clause-few c =
+    rw (c.in_ok-pass_counted.ensures.passed, c.in_ok-pass_counted.ensures.counted)
+    (kept_few c.args.token.len c.args.walk.now c.args.counted.now (within c.args.walk.now (kinds.Token c.args.token.kind) c.args.token.len c.requires))

@@ -1,8 +1,8 @@
-use Rattle.std.proofs.Common.{◌≡◌, ◌<◌, length, arith}
+use Rattle.std.proofs.Common.{◌≡◌, ◌<◌, length, [], arith}
 use Rattle.std.proofs.lemmas.Result.{err_from_is_err_and}
 use Rattle.cb_tokens.specs.declared.token.PieceKind.TheVariants as kinds
-use Rattle.cb_tree.proofs.Pieces.{shorter}
-use Rattle.cb_tree.proofs.Runs.{run_start, run_tells}
+use Rattle.cb_tree.proofs.Pieces.{shorter, within}
+use Rattle.cb_tree.proofs.Runs.{run_start, run_tells, start_few}
 use Rattle.cb_tree.proofs.run.read_run.Goals as goal
 
 pub pieces-init : goal.pieces-init
@@ -10,6 +10,7 @@ pieces-init c =
     rw (c.in_ok-pass_counted.ensures.passed, c.in_ok-pass_counted.ensures.counted, c.new-counted.ensures) (
       run_start c.args.walk.now c.args.token.kind c.args.token.len c.requires.stands c.requires.text,
       shorter c.args.walk.now (kinds.Token c.args.token.kind) c.args.token.len c.requires.stands,
+      start_few c.args.token.len c.args.walk.now (within c.args.walk.now (kinds.Token c.args.token.kind) c.args.token.len c.requires.stands),
     )
 
 pub returns-in_err-next-clause-tells : goal.returns-in_err-next-clause-tells

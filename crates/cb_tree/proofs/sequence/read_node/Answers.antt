@@ -1,4 +1,4 @@
-use Rattle.std.proofs.Common.{◌≡◌, ◌<◌, length, [], ap, ◌∙◌, sym, arith}
+use Rattle.std.proofs.Common.{◌≡◌, ◌+◌, ◌<◌, ◌≤◌, length, [], ap, ◌∙◌, sym, arith}
 use Rattle.std.proofs.lemmas.Result.{err_from_is_err_and}
 use Rattle.cb_tree.specs.Kinds.{is_hash_text}
 use Rattle.cb_tree.proofs.Runs.{front_bytes}
@@ -12,9 +12,11 @@ returns-in_err-node-clause-tells c =
     rw (p.1, p.2) (tells_after c.args.walk.now c.skip_white.new.walk [] c.in_err-node.field-0.0 c.in_ok-token.ensures.reads c.in_err-node.ensures.tells)
 
 pub returns-then-is_hash_text-clause-reads : goal.returns-then-is_hash_text-clause-reads
-returns-then-is_hash_text-clause-reads c =
-    (reads_on c.args.walk.now [] c.skip_white.new.walk _ c.read_directive.new.walk c.in_ok-token.ensures.reads c.in_ok-node.ensures.reads,
-     omega (arith, reads_shorter c.args.walk.now [] c.skip_white.new.walk c.in_ok-token.ensures.reads, c.in_ok-node.ensures.shorter))
+returns-then-is_hash_text-clause-reads c = (
+  reads_on c.args.walk.now [] c.skip_white.new.walk _ c.read_directive.new.walk c.in_ok-token.ensures.reads c.in_ok-node.ensures.reads,
+  omega (arith, reads_shorter c.args.walk.now [] c.skip_white.new.walk c.in_ok-token.ensures.reads, c.in_ok-node.ensures.shorter),
+  omega (arith, reads_shorter c.args.walk.now [] c.skip_white.new.walk c.in_ok-token.ensures.reads, c.in_ok-node.ensures.few),
+)
 
 pub returns-in_err-counted-clause-tells : goal.returns-in_err-counted-clause-tells
 returns-in_err-counted-clause-tells c =
@@ -22,7 +24,9 @@ returns-in_err-counted-clause-tells c =
     rw (p.1, p.2) (tells_after c.args.walk.now c.skip_white.new.walk [] c.in_err-counted.field-0.0 c.in_ok-token.ensures.reads c.in_err-counted.ensures.tells)
 
 pub returns-clause-reads : goal.returns-clause-reads
-returns-clause-reads c =
-    (rw c.new.ensures.items
-        (reads_on c.args.walk.now [] c.skip_white.new.walk _ c.read_run.new.walk c.in_ok-token.ensures.reads c.in_ok-counted.ensures.reads),
-     omega (arith, reads_shorter c.args.walk.now [] c.skip_white.new.walk c.in_ok-token.ensures.reads, c.in_ok-counted.ensures.shorter))
+returns-clause-reads c = (
+  rw c.new.ensures.items
+      (reads_on c.args.walk.now [] c.skip_white.new.walk _ c.read_run.new.walk c.in_ok-token.ensures.reads c.in_ok-counted.ensures.reads),
+  omega (arith, reads_shorter c.args.walk.now [] c.skip_white.new.walk c.in_ok-token.ensures.reads, c.in_ok-counted.ensures.shorter),
+  omega (arith, reads_shorter c.args.walk.now [] c.skip_white.new.walk c.in_ok-token.ensures.reads, c.in_ok-counted.ensures.few),
+)

@@ -15,18 +15,18 @@ nodes-preserved c =
     let line : c.first_line-line.result ≡ first_of c.in-Some.node.counted = c.first_line-line.ensures ∙ ap first_of c.spans.ensures.lines in
     let read = rw c.in-Some.is at c.in_ok-read_node.ensures.reads in
     rw c.in_ok-push-in-Ok.ensures.items
-        (progress_on c.args.walk.now c.nodes.nodes.items c.nodes.sections c.nodes.walk c.in-Some.node c.after.new.self c.read_node.new.walk
-            c.nodes.invariant read.0 read.1
-            (subst (λ (x : ℕ). sections_after c.in-Some.node.kind x c.nodes.sections ≡ Ok c.after.new.self) line c.in-Ok.ensures.ok))
+    (progress_on c.args.walk.now c.nodes.nodes.items c.nodes.sections c.nodes.walk c.in-Some.node c.after.new.self c.read_node.new.walk
+    c.nodes.invariant read.0 read.1 read.2
+    (subst (λ (x : ℕ). sections_after c.in-Some.node.kind x c.nodes.sections ≡ Ok c.after.new.self) line c.in-Ok.ensures.ok))
 
 pub returns-in-Err-clause-fault : goal.returns-in-Err-clause-fault
 returns-in-Err-clause-fault c =
     let line : c.first_line-line.result ≡ first_of c.in-Some.node.counted = c.first_line-line.ensures ∙ ap first_of c.spans.ensures.lines in
     let read = rw c.in-Some.is at c.in_ok-read_node.ensures.reads in
     refuses_node c.args.walk.now c.nodes.nodes.items c.nodes.sections c.nodes.walk c.in-Some.node c.read_node.new.walk c.in-Err.fault c.read_out.result
-        c.nodes.invariant read.0
-        (λ f e. subst (λ (x : ℕ). sections_after c.in-Some.node.kind x c.nodes.sections ≡ Err f) line (c.in-Err.ensures.err f (ap Err e)))
-        c.read_out.ensures
+    c.nodes.invariant read.0
+    (λ f e. subst (λ (x : ℕ). sections_after c.in-Some.node.kind x c.nodes.sections ≡ Err f) line (c.in-Err.ensures.err f (ap Err e)))
+    c.read_out.ensures
 
 pub returns-in-None-fault_at_end-clause-nodes : goal.returns-in-None-fault_at_end-clause-nodes
 returns-in-None-fault_at_end-clause-nodes c =
@@ -37,4 +37,4 @@ pub returns-in-Some-fault_at_end-clause-fault : goal.returns-in-Some-fault_at_en
 returns-in-Some-fault_at_end-clause-fault c =
     let read = rw c.in-None.is at c.in_ok-read_node.ensures.reads in
     refuses_at_end c.args.walk.now c.nodes.nodes.items c.nodes.sections c.nodes.walk c.read_node.new.walk c.in-Some-fault_at_end.fault c.nodes.invariant read.0 read.1
-        (sym c.in-Some-fault_at_end.ensures)
+    (sym c.in-Some-fault_at_end.ensures)

@@ -13,7 +13,7 @@ pieces-smaller c =
 pub pieces-preserved : goal.pieces-preserved
 pieces-preserved c =
     rw c.pass.ensures
-        (cuts_on _ c.pieces.invariant.0 c.pieces.walk c.in-Ok-Some.piece.kind c.in-Ok-Some.piece.len c.pieces.invariant.1 (rw c.in-Ok-Some.field-0-is at c.in-Ok-Some.ensures))
+    (cuts_on _ c.pieces.invariant.0 c.pieces.walk c.in-Ok-Some.piece.kind c.in-Ok-Some.piece.len c.pieces.invariant.1 (rw c.in-Ok-Some.field-0-is at c.in-Ok-Some.ensures))
 
 pub returns-in-Ok-None : goal.returns-in-Ok-None
 returns-in-Ok-None c =

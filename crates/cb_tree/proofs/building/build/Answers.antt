@@ -1,0 +1,13 @@
+use Rattle.std.proofs.Common.{◌≡◌, List, ℕ, Err, inl, inr, ap}
+use Rattle.std.proofs.lemmas.Result.{err_from_is_err_and}
+use Rattle.cb_tree.proofs.OneReading.{same_fault, not_sound}
+use Rattle.cb_tree.proofs.building.build.Goals as goal
+
+pub returns-in_err-nodes-clause-every_fault : goal.returns-in_err-nodes-clause-every_fault
+returns-in_err-nodes-clause-every_fault c = λ f h.
+    let p = err_from_is_err_and c.from_residual.result c.from_residual.ensures.1 in
+    rw (p.1, p.2) (same_fault c.args.source.now (c.one_reading.ensures c.args.source.now) c.in_err-nodes.field-0.0 f c.in_err-nodes.ensures.fault h)
+
+pub returns-clause-every_fault : goal.returns-clause-every_fault
+returns-clause-every_fault c = λ f h.
+    absurd (not_sound c.args.source.now (c.one_reading.ensures c.args.source.now) _ f c.in_ok-nodes.ensures.nodes h)
