@@ -1,7 +1,6 @@
 -- The nodes of a cut, piece by piece.
-use Rattle.std.proofs.Common.{◌≡◌, Bool, true, false, if◌then◌else◌, List, [], ◌∷◌, ◌++◌, map, refl, ap, sym, ◌∙◌, append_assoc}
+use Rattle.std.proofs.Common.{◌≡◌, Bool, true, false, List, [], ◌∷◌, ◌++◌, refl, ap, sym, ◌∙◌, append_assoc}
 use Rattle.std.proofs.lemmas.List.{append-nil}
-use Rattle.std.specs.List.{flat_map}
 use Rattle.cb_lines.specs.declared.mark.Mark.{Mark}
 use Rattle.cb_lines.specs.Marks.{bytes_of}
 use Rattle.cb_tokens.specs.declared.token.Token.{Token}
@@ -9,9 +8,9 @@ use Rattle.cb_tokens.specs.declared.token.TokenKind.{TokenKind}
 use Rattle.cb_tokens.specs.declared.token.PieceKind.{PieceKind}
 use Rattle.cb_tokens.specs.declared.token.PieceKind.TheVariants as kinds
 use Rattle.cb_tokens.specs.Cut.{Piece}
-use Rattle.cb_tokens.specs.Logical.{with_piece, split_lines, line_tokens, later_tokens, token_marks, token_of, spaced_after}
+use Rattle.cb_tokens.specs.Logical.{with_piece, later_tokens, token_marks, token_of, spaced_after}
 use Rattle.cb_tree.specs.Kinds.{is_hash}
-use Rattle.cb_tree.specs.Reads.{Brief, Directive, Run, solid, run_before, line_before, briefs_of, run_on, directive_on}
+use Rattle.cb_tree.specs.Reads.{Brief, Directive, Run, solid, run_before, briefs_of, run_on, directive_on}
 
 -- white space or a comment at the start of a line changes nothing
 pub skip_white : (m : List Mark) (S : List (List Piece)) → briefs_of (with_piece (record { kind = kinds.White; marks = m }) S) ≡ briefs_of S

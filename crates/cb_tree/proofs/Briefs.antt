@@ -1,6 +1,5 @@
 -- The nodes of a cut, in brief.
-use Rattle.std.proofs.Common.{◌≡◌, Bool, true, false, if◌then◌else◌, List, [], ◌∷◌, ◌++◌, map, refl, ap, sym, ◌∙◌}
-use Rattle.std.specs.List.{flat_map}
+use Rattle.std.proofs.Common.{◌≡◌, Bool, true, false, if◌then◌else◌, List, [], ◌∷◌, ◌++◌, map, refl, ap, ◌∙◌}
 use Rattle.std.proofs.lemmas.Grind.{flat_map-append}
 use Rattle.cb_lines.specs.declared.mark.Mark.{Mark}
 use Rattle.cb_lines.specs.Lines.{lines_of}
@@ -8,10 +7,10 @@ use Rattle.cb_tokens.specs.declared.token.Token.{Token}
 use Rattle.cb_tokens.specs.declared.token.PieceKind.{PieceKind}
 use Rattle.cb_tokens.specs.declared.token.PieceKind.TheVariants as kinds
 use Rattle.cb_tokens.specs.Cut.{Piece}
-use Rattle.cb_tokens.specs.Logical.{split_lines, line_tokens, later_tokens, token_marks}
+use Rattle.cb_tokens.specs.Logical.{split_lines, line_tokens, token_marks}
 use Rattle.cb_tree.specs.declared.node.NodeKind.TheVariants.{Text}
 use Rattle.cb_tree.specs.Kinds.{is_hash, is_directive, kind_of}
-use Rattle.cb_tree.specs.Nodes.{Node, node_of, nodes_of, groups_of, join_text, before_groups}
+use Rattle.cb_tree.specs.Nodes.{node_of, nodes_of, groups_of, join_text, before_groups}
 use Rattle.cb_tree.specs.Reads.{Brief, Directive, Run, node_in_brief, solid, run_before, line_before, briefs_of}
 
 -- a group in brief

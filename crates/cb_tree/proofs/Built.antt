@@ -1,17 +1,14 @@
 -- From the nodes of marks to what a source is read as.
-use Rattle.std.proofs.Common.{◌≡◌, ◌⊎◌, inl, inr, ℕ, ◌+◌, ◌-◌, ◌≤◌, Bool, true, false, List, [], ◌∷◌, ◌++◌, length, Some, None, refl, ap, sym, subst, ◌∙◌, arith, length-append}
+use Rattle.std.proofs.Common.{◌≡◌, inl, inr, ℕ, ◌+◌, ◌-◌, ◌≤◌, Bool, true, false, List, [], length, refl, ap, sym, subst, ◌∙◌, arith, length-append}
 use Prim.Native.Nat.{zero, suc}
 use Rattle.std.specs.List.{flat_map, range_with_len}
 use Rattle.std.proofs.lemmas.List.{append-nil}
-use Rattle.cb_lines.specs.declared.mark.Mark.{Mark}
 use Rattle.cb_lines.specs.Marks.{marks_of, mark_at, is_deleted}
-use Rattle.cb_tree.specs.declared.fault.SourceKind.TheVariants as kind
 use Rattle.cb_tree.specs.declared.fault.BadSource.{BadSource}
 use Rattle.cb_tree.specs.declared.fault.BuildFault.{BuildFault}
 use Rattle.cb_tree.specs.declared.fault.BuildFault.TheVariants.{Bad, NoMemory}
 use Rattle.cb_tree.specs.Nodes.{Node, nodes_of}
-use Rattle.cb_tree.specs.Sections.{first_fault}
-use Rattle.cb_tree.specs.Sound.{Reading, Sound, Unsound, IsRead, IsWithinLimits, IsCutInto, open_comment, faulty, sound}
+use Rattle.cb_tree.specs.Sound.{Sound, Unsound, IsRead, IsWithinLimits, IsCutInto, open_comment, faulty, sound}
 use Rattle.cb_tree.specs.Reads.{Reads, Refuses, AreSound, IsReadAs}
 
 -- the nodes of a whole reading

@@ -9,16 +9,16 @@ use Rattle.cb_tokens.specs.declared.token.TokenKind.{TokenKind}
 use Rattle.cb_tokens.specs.declared.token.PieceKind.{PieceKind}
 use Rattle.cb_tokens.specs.declared.token.PieceKind.TheVariants as kinds
 use Rattle.cb_tokens.specs.declared.first.First.TheVariants as first
-use Rattle.cb_tokens.specs.Cut.{Piece, StandsFirst, Cuts, IsCut}
+use Rattle.cb_tokens.specs.Cut.{Piece, StandsFirst, IsCut}
 use Rattle.cb_tokens.specs.Logical.{split_lines, with_piece, token_of, token_marks, spaced_after}
 use Rattle.cb_tree.specs.declared.fault.BuildFault.{BuildFault}
 use Rattle.cb_tree.specs.declared.fault.BuildFault.TheVariants.{Bad, NoMemory}
-use Rattle.cb_tree.specs.Kinds.{is_hash_text, kind_of}
-use Rattle.cb_tree.specs.Nodes.{Node, nodes_of}
-use Rattle.cb_tree.specs.Reads.{Reads, ReadsDirective, Brief, Directive, node_in_brief, briefs_of, directive_on, directive_node, Tells}
+use Rattle.cb_tree.specs.Kinds.{is_hash_text}
+use Rattle.cb_tree.specs.Nodes.{nodes_of}
+use Rattle.cb_tree.specs.Reads.{Reads, ReadsDirective, Directive, node_in_brief, briefs_of, directive_on, directive_node, Tells}
 use Rattle.cb_tree.proofs.Pieces.{passes, Cuts-trans, cut_of_none, open_after}
 use Rattle.cb_tree.proofs.Briefs.{in_brief}
-use Rattle.cb_tree.proofs.BriefSteps.{directive_begins, directive_goes, directive_ends, front_token}
+use Rattle.cb_tree.proofs.BriefSteps.{directive_begins, directive_goes, directive_ends}
 use Rattle.cb_tree.proofs.Runs.{counted_more, same_text}
 
 -- a piece of a directive line

@@ -1,5 +1,5 @@
 -- The last byte of a source.
-use Rattle.std.proofs.Common.{◌≡◌, ℕ, ◌-◌, ◌<◌, Bool, not, List, [], ◌∷◌, length, get_or, ap, sym, ◌∙◌, arith, refl}
+use Rattle.std.proofs.Common.{◌≡◌, ℕ, ◌-◌, ◌<◌, not, List, [], ◌∷◌, length, get_or, ap, sym, ◌∙◌, arith, refl}
 use Prim.Native.Nat.{suc}
 use Rattle.cb_lines.specs.Marks.{is_line_feed}
 use Rattle.cb_tree.specs.Sound.{ends_open}

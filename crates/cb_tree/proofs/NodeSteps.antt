@@ -1,5 +1,5 @@
 -- The nodes of a source, one after another.
-use Rattle.std.proofs.Common.{◌≡◌, ◌⊎◌, inl, inr, ℕ, ◌+◌, ◌<◌, ◌≤◌, List, [], ◌∷◌, ◌++◌, length, get_or, take, drop, map, Some, None, Ok, Err, refl, ap, sym, subst, ◌∙◌, append_assoc, arith, length-append, length-drop}
+use Rattle.std.proofs.Common.{◌≡◌, inl, inr, ℕ, ◌+◌, ◌<◌, ◌≤◌, List, [], ◌∷◌, ◌++◌, length, get_or, take, drop, map, Some, None, Ok, Err, refl, ap, sym, subst, ◌∙◌, append_assoc, arith, length-append, length-drop}
 use Rattle.std.proofs.lemmas.List.{append-nil, map-append, length-map}
 use Rattle.std.proofs.lemmas.List.Sums.{sum_by-append, sum_by-cons}
 use Prim.Native.Nat.{zero, suc}

@@ -1,5 +1,5 @@
 -- Cuts of marks, piece by piece.
-use Rattle.std.proofs.Common.{◌≡◌, ℕ, ◌<◌, ◌≤◌, Bool, true, false, List, [], ◌∷◌, ◌++◌, length, take, drop, map, refl, ap, sym, subst, ◌∙◌, arith, append_assoc, length-drop}
+use Rattle.std.proofs.Common.{◌≡◌, ℕ, ◌<◌, ◌≤◌, false, List, [], ◌∷◌, ◌++◌, length, take, drop, refl, ap, sym, subst, arith, length-drop}
 use Rattle.std.proofs.lemmas.List.{length-map, length-take-le}
 use Prim.Native.Nat.{zero, suc}
 use Rattle.cb_lines.specs.declared.mark.Mark.{Mark}
@@ -7,7 +7,6 @@ use Rattle.cb_lines.specs.Marks.{bytes_of}
 use Rattle.cb_tokens.specs.declared.token.TokenKind.TheVariants.{Identifier, Number, Char, Str, Punct, Other}
 use Rattle.cb_tokens.specs.declared.token.PieceKind.{PieceKind}
 use Rattle.cb_tokens.specs.declared.token.PieceKind.TheVariants as kinds
-use Rattle.cb_tokens.specs.declared.first.First.{First}
 use Rattle.cb_tokens.specs.declared.first.First.TheVariants as first
 use Rattle.cb_tokens.specs.Forms.{fits, is_white_run, is_comment, begins_with, is_identifier, is_number, is_character, is_quoted, is_string, is_prefix_letter, is_punctuator, punctuators, is_unclosed, is_stray}
 use Rattle.cb_tokens.specs.Cut.{Piece, IsFirst, StandsFirst, BeginsWith, Cuts, IsCut, HasOpenComment}

@@ -8,20 +8,19 @@ use Rattle.cb_tokens.specs.declared.token.TokenKind.{TokenKind}
 use Rattle.cb_tokens.specs.declared.token.PieceKind.{PieceKind}
 use Rattle.cb_tokens.specs.declared.token.PieceKind.TheVariants as kinds
 use Rattle.cb_tokens.specs.declared.first.First.TheVariants as first
-use Rattle.cb_tokens.specs.Cut.{Piece, StandsFirst, Cuts, IsCut}
+use Rattle.cb_tokens.specs.Cut.{Piece, StandsFirst, IsCut}
 use Rattle.cb_tokens.specs.Logical.{split_lines, token_marks}
-use Rattle.cb_tree.specs.declared.node.NodeKind.TheVariants.{Text}
 use Rattle.cb_tree.specs.declared.reading.Place.{Place}
 use Rattle.cb_tree.specs.declared.reading.Place.TheVariants.{LineStart, InLine}
 use Rattle.cb_tree.specs.declared.fault.BuildFault.{BuildFault}
 use Rattle.cb_tree.specs.declared.fault.BuildFault.TheVariants.{Bad, NoMemory}
 use Rattle.cb_tree.specs.Kinds.{is_hash_text}
-use Rattle.cb_tree.specs.Nodes.{Node, nodes_of}
-use Rattle.cb_tree.specs.Reads.{Reads, ReadsRun, Brief, Run, node_in_brief, briefs_of, run_before, run_on, run_from, text_node, Tells}
+use Rattle.cb_tree.specs.Nodes.{nodes_of}
+use Rattle.cb_tree.specs.Reads.{Reads, ReadsRun, Run, node_in_brief, briefs_of, run_before, run_from, text_node, Tells}
 use Rattle.cb_tree.proofs.Pieces.{passes, Cuts-trans, cut_of_none, open_after}
 use Rattle.cb_tree.proofs.Briefs.{in_brief}
-use Rattle.cb_tree.proofs.BriefSteps.{skip_white, skip_comment, run_begins, run_goes, run_line_ends, run_line_begins, run_ends, front_token}
-use Rattle.cb_tree.proofs.Hash.{BeginsWithHash, hash_next}
+use Rattle.cb_tree.proofs.BriefSteps.{skip_white, skip_comment, run_begins, run_goes, run_line_ends, run_line_begins, run_ends}
+use Rattle.cb_tree.proofs.Hash.{hash_next}
 
 -- lines of marks are added one list after another
 pub with_lines-append : (a b : List Mark) (set : List ℕ) → with_lines (a ++ b) set ≡ with_lines b (with_lines a set)

@@ -1,5 +1,5 @@
 -- What of a tree a pass can see without the lines of its text.
-use Rattle.std.specs.Prelude.{List, [], map}
+use Rattle.std.specs.Prelude.{List, map}
 use Rattle.cb_tokens.specs.declared.token.Token.{Token}
 use Rattle.cb_tree.specs.declared.node.NodeKind.{NodeKind}
 use Rattle.cb_tree.specs.Nodes.{Node}

@@ -1,4 +1,3 @@
-use Rattle.std.proofs.Common.{◌≡◌, List, ℕ, Err, inl, inr, ap}
 use Rattle.std.proofs.lemmas.Result.{err_from_is_err_and}
 use Rattle.cb_tree.proofs.OneReading.{same_fault, not_sound}
 use Rattle.cb_tree.proofs.building.build.Goals as goal

@@ -1,4 +1,4 @@
-use Rattle.std.proofs.Common.{◌≡◌, ap, sym}
+use Rattle.std.proofs.Common.{sym}
 use Rattle.cb_tokens.specs.declared.token.PieceKind.TheVariants as kinds
 use Rattle.cb_tree.proofs.Pieces.{shorter, within}
 use Rattle.cb_tree.proofs.Runs.{front_bytes, kept_few}

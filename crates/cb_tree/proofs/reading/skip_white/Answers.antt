@@ -1,8 +1,7 @@
-use Rattle.std.proofs.Common.{◌≡◌, [], append_assoc}
+use Rattle.std.proofs.Common.{[]}
 use Rattle.std.proofs.lemmas.Result.{err_from_is_err_and}
-use Rattle.cb_tree.specs.Reads.{StandsNext}
 use Rattle.cb_tree.proofs.Pieces.{shorter}
-use Rattle.cb_tree.proofs.ReadsMore.{reads_none, reads_on, reads_blank, tells_after}
+use Rattle.cb_tree.proofs.ReadsMore.{reads_on, reads_blank, tells_after}
 use Rattle.cb_tree.proofs.reading.skip_white.Goals as goal
 
 pub returns-in_err-piece-clause-next : goal.returns-in_err-piece-clause-next

@@ -1,4 +1,3 @@
-use Rattle.std.proofs.Common.{◌≡◌}
 use Rattle.cb_tokens.specs.declared.token.PieceKind.TheVariants as kinds
 use Rattle.cb_tree.proofs.Pieces.{shorter}
 use Rattle.cb_tree.proofs.Runs.{run_ends_with_source, run_white, run_comment, run_line_end}

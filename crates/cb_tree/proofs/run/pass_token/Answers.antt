@@ -1,4 +1,4 @@
-use Rattle.std.proofs.Common.{◌≡◌, ap, ◌∙◌}
+use Rattle.std.proofs.Common.{ap, ◌∙◌}
 use Rattle.cb_tree.specs.Kinds.{is_hash_text}
 use Rattle.cb_tree.proofs.Pieces.{shorter, within}
 use Rattle.cb_tokens.specs.declared.token.PieceKind.TheVariants as kinds

@@ -1,7 +1,5 @@
-use Rattle.std.proofs.Common.{◌≡◌, ◌+◌, ◌<◌, ◌≤◌, length, [], ap, ◌∙◌, sym, arith}
+use Rattle.std.proofs.Common.{[], arith}
 use Rattle.std.proofs.lemmas.Result.{err_from_is_err_and}
-use Rattle.cb_tree.specs.Kinds.{is_hash_text}
-use Rattle.cb_tree.proofs.Runs.{front_bytes}
 use Rattle.cb_tree.proofs.ReadsMore.{reads_on, tells_after}
 use Rattle.cb_tree.proofs.NodeSteps.{reads_shorter}
 use Rattle.cb_tree.proofs.sequence.read_node.Goals as goal

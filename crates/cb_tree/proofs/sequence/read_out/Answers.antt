@@ -1,6 +1,6 @@
 use Rattle.std.proofs.Common.{◌≡◌, inl, inr, refl, List, [], subst}
 use Rattle.cb_lines.specs.declared.mark.Mark.{Mark}
-use Rattle.cb_tokens.specs.Cut.{Piece, IsCut, Cuts}
+use Rattle.cb_tokens.specs.Cut.{Cuts}
 use Rattle.cb_tree.specs.Nodes.{nodes_of}
 use Rattle.cb_tree.proofs.Pieces.{shorter}
 use Rattle.cb_tree.proofs.NodeSteps.{cuts_on, reads_cut, open_behind}

@@ -1,4 +1,3 @@
-use Rattle.std.proofs.Common.{◌≡◌}
 use Rattle.cb_tree.proofs.Bones.{bones_at}
 use Rattle.cb_tree.proofs.skeleton.are_same_bones.Goals as goal
 
