@@ -12,3 +12,5 @@ pub mod NodeSteps
 pub mod OneReading
 pub mod Built
 pub mod Bones
+pub mod Turns
+pub mod GroupEnds

@@ -5,3 +5,4 @@ pub mod Sound
 pub mod Reads
 pub mod Trees
 pub mod Skeleton
+pub mod Groups

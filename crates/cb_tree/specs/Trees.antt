@@ -1,10 +1,39 @@
 -- What a tree keeps. No public clause names these words.
-use Rattle.std.specs.Prelude.{◌≡◌, ℕ, ◌≤◌, List, length, map}
+use Rattle.std.specs.Prelude.{◌≡◌, ℕ, ◌≤◌, if◌then◌else◌, List, [], ◌∷◌, length, drop, map, Option, Some, None}
 use Rattle.cb_tree.specs.declared.node.NodeData.{NodeData}
+use Rattle.cb_tree.specs.declared.node.NodeKind.{NodeKind}
+use Rattle.cb_tree.specs.declared.node.NodeKind.TheVariants.{Text, If, Ifdef, Ifndef, Elif, Else, Endif, Define, Undef, Include, Once, Error, Other}
+use Rattle.cb_tree.specs.Groups.{opens_group, kinds_of, ends_from}
 use Rattle.cb_tree.specs.Nodes.{total_lines}
 use Rattle.cb_tree.specs.Reads.{node_value}
 
--- a tree's nodes, and the number of their counted lines
-pub record IsKept (nodes : List NodeData) (total : ℕ) : Type 0 where
+-- a tree's nodes, the number of their counted lines, and the ends of the groups that they begin
+pub record IsKept (nodes : List NodeData) (total : ℕ) (ends : List (Option ℕ)) : Type 0 where
   pub few : length nodes ≤ 4194304
   pub total_is : total ≡ total_lines (map node_value nodes)
+  pub ends_are : ends ≡ ends_from 1 (kinds_of (map node_value nodes))
+
+-- the first of a list
+abbrev pub front_of : List ℕ → Option ℕ
+front_of [] = None
+front_of (x ∷ xs) = Some x
+
+-- the end of the group that a node of this kind begins, where the next turns of the sections that are open behind it are these
+abbrev pub end_by : NodeKind → List ℕ → Option ℕ
+end_by kind turns = if opens_group kind then front_of turns else None
+
+-- the next turns of the open sections from a node of this kind on
+abbrev pub turns_with : NodeKind → ℕ → List ℕ → List ℕ
+turns_with Text node turns = turns
+turns_with If node turns = drop 1 turns
+turns_with Ifdef node turns = drop 1 turns
+turns_with Ifndef node turns = drop 1 turns
+turns_with Elif node turns = node ∷ drop 1 turns
+turns_with Else node turns = node ∷ drop 1 turns
+turns_with Endif node turns = node ∷ turns
+turns_with Define node turns = turns
+turns_with Undef node turns = turns
+turns_with Include node turns = turns
+turns_with Once node turns = turns
+turns_with Error node turns = turns
+turns_with Other node turns = turns

@@ -6,6 +6,7 @@ ghost use Rattle.cb_tree.specs.Reads.{IsReadAs, node_value};
 ghost use Rattle.cb_tree.specs.declared.fault.BadSource.{BadSource as Fault};
 
 use crate::fault::BuildFault;
+use crate::groups::group_ends;
 use crate::node::NodeData;
 use crate::sequence::read_nodes;
 use crate::size::check_size;
@@ -57,5 +58,6 @@ pub fn build(alloc: Global, source: &[u8]) -> Result<Tree, BuildFault>
     one_reading();
     let nodes = read_source(alloc, source)?;
     let total = total_of(nodes.as_slice());
-    Ok(Tree { nodes, total })
+    let ends = group_ends(alloc, nodes.as_slice())?;
+    Ok(Tree { nodes, total, ends })
 }

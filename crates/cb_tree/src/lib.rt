@@ -4,6 +4,7 @@
 mod building;
 mod directive;
 mod fault;
+mod groups;
 mod kind;
 mod node;
 mod reading;

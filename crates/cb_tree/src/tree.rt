@@ -4,6 +4,7 @@ ghost use Rattle.std.specs.Option.{option_map};
 ghost use Rattle.std.specs.List.{flat_map};
 ghost use Rattle.cb_lines.specs.Lines.{AreMaximal, span_lines};
 ghost use Rattle.cb_tree.specs.Nodes.{node_line, node_rest, first_of, total_lines};
+ghost use Rattle.cb_tree.specs.Groups.{kinds_of, group_end_of};
 ghost use Rattle.cb_tree.specs.Skeleton.{skeleton};
 
 use crate::kind;
@@ -18,6 +19,7 @@ use std::marker::Model;
 pub struct Tree {
     pub(crate) nodes: Vec<NodeData>,
     pub(crate) total: u64,
+    pub(crate) ends: Vec<Option<u32>>,
 }
 
 impl Model for Tree {
@@ -31,7 +33,7 @@ impl Model for Tree {
 
     ghost view = { λ t. map node_value t.nodes.items };
 
-    ghost invariant = { λ t. IsKept t.nodes.items t.total };
+    ghost invariant = { λ t. IsKept t.nodes.items t.total t.ends.items };
 }
 
 /// The least number of spans; 0 where there is none.
@@ -71,6 +73,15 @@ impl Tree {
         ensures { option_map (λ n. n.kind) (slice_get self.now (node - 1)) ≡ Some result }
     {
         self.nodes[node as usize - 1].kind
+    }
+
+    /// The number of the `#elif`, `#else` or `#endif` that ends the group which a node begins, none where it begins none.
+    pub fn group_end(&self, node: u32) -> Option<u32>
+        requires { (1 ≤ node) × (node ≤ length self.now) }
+        ensures { result ≡ group_end_of (kinds_of self.now) node }
+    {
+        let ends = self.ends.as_slice();
+        ends[node as usize - 1]
     }
 
     /// The tokens of a directive behind its name, or behind its `#` where no identifier follows that; none of text.

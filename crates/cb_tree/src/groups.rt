@@ -1,0 +1,54 @@
+//! Where the groups of if sections end.
+ghost use Rattle.std.specs.Prelude.{◌≡◌, ◌≤◌, length, map, reverse, IfOk, OnOk};
+ghost use Rattle.cb_tree.specs.Groups.{kinds_of, ends_from};
+ghost use Rattle.cb_tree.specs.Reads.{node_value};
+ghost use Rattle.cb_tree.specs.Trees.{end_by, turns_with};
+
+use crate::node::{NodeData, NodeKind};
+use cb_paths::NoMemory;
+use std::alloc::Global;
+
+/// Goes to a node from those behind it, and answers the end of the group that it begins. The numbers of the next `#elif`,
+/// `#else` or `#endif` of the sections that are open there are kept with the innermost last.
+fn step_back(turns: &mut Vec<u32>, kind: NodeKind, node: u32) -> Result<Option<u32>, NoMemory>
+    ensures end { IfOk result (λ end. end ≡ end_by kind (reverse turns.old.items)) }
+    ensures turns { OnOk result (reverse turns.new.items ≡ turns_with kind node (reverse turns.old.items)) }
+{
+    match kind {
+        NodeKind::If | NodeKind::Ifdef | NodeKind::Ifndef => Ok(turns.pop()),
+        NodeKind::Elif | NodeKind::Else => {
+            let end = turns.pop();
+            turns.push(node)?;
+            Ok(end)
+        }
+        NodeKind::Endif => {
+            turns.push(node)?;
+            Ok(None)
+        }
+        NodeKind::Text
+        | NodeKind::Define
+        | NodeKind::Undef
+        | NodeKind::Include
+        | NodeKind::Once
+        | NodeKind::Error
+        | NodeKind::Other => Ok(None),
+    }
+}
+
+/// The end of the group that each node begins.
+pub(crate) fn group_ends(alloc: Global, nodes: &[NodeData]) -> Result<Vec<Option<u32>>, NoMemory>
+    requires { length nodes.now ≤ 4194304 }
+    ensures { IfOk result (λ ends. ends.items ≡ ends_from 1 (kinds_of (map node_value nodes.now))) }
+{
+    let mut turns = Vec::new(alloc);
+    let mut ends = Vec::new(alloc);
+    let mut left = nodes.len();
+    'nodes: while left > 0 {
+        let node = left as u32;
+        left -= 1;
+        let end = step_back(&mut turns, nodes[left].kind, node)?;
+        ends.push(end)?;
+    }
+    ends.reverse();
+    Ok(ends)
+}
