@@ -1,9 +1,10 @@
 -- The end of the group that a node begins, in the table.
-use Rattle.std.proofs.Common.{◌≡◌, ℕ, ◌+◌, ◌-◌, ◌<◌, ◌≤◌, List, [], ◌∷◌, length, drop, get_or, Option, None, if◌then◌else◌, refl, ap, sym, ◌∙◌, add-one, arith}
+use Rattle.std.proofs.Common.{◌≡◌, ℕ, ◌+◌, ◌-◌, ◌<◌, ◌≤◌, List, [], ◌∷◌, length, drop, get_or, Option, None, Some, MatchOption, Bool, true, false, ◌==◌, length-drop, if◌then◌else◌, refl, ap, sym, ◌∙◌, add-one, arith}
 use Prim.Native.Nat.{zero, suc}
 use Rattle.std.specs.Prelude.{slice_get}
 use Rattle.cb_tree.specs.declared.node.NodeKind.{NodeKind}
-use Rattle.cb_tree.specs.Groups.{end_behind, ends_from, group_end_of, next_turn, opens_group}
+use Rattle.cb_tree.specs.declared.node.NodeKind.TheVariants.{Text, If, Ifdef, Ifndef, Elif, Else, Endif, Define, Undef, Include, Once, Error, Other}
+use Rattle.cb_tree.specs.Groups.{end_behind, ends_from, group_end_of, turn_at, next_turn, opens_group}
 
 -- the entry at a place
 pub entry_at : (kinds : List NodeKind) (node i : ℕ) (d : Option ℕ) → i < length kinds
@@ -30,3 +31,54 @@ end_at kinds ends node d low high h =
 pub length-ends_from : (kinds : List NodeKind) (node : ℕ) → length (ends_from node kinds) ≡ length kinds
 length-ends_from [] node = refl
 length-ends_from (kind ∷ kinds) node = ap suc (length-ends_from kinds (node + 1))
+
+-- a turn that a node is, or that comes behind it
+chosen_within : (b : Bool) (node : ℕ) (rest : Option ℕ) (e n : ℕ) → (rest ≡ Some e → (node + 1 ≤ e) × (e < node + 1 + n))
+  → (if b then Some node else rest) ≡ Some e → (node ≤ e) × (e < node + suc n)
+chosen_within true node rest e n behind h =
+    let same : node ≡ e = cc in
+    (omega arith, omega arith)
+chosen_within false node rest e n behind h =
+    let w = behind h in
+    (omega (arith, w.0), omega (arith, w.1))
+
+turn_within : (kind : NodeKind) (node : ℕ) (behind : ℕ → Option ℕ) (depth e n : ℕ)
+  → ((d : ℕ) → behind d ≡ Some e → (node + 1 ≤ e) × (e < node + 1 + n))
+  → turn_at kind node behind depth ≡ Some e → (node ≤ e) × (e < node + suc n)
+turn_within Text node behind depth e n w h = chosen_within false node (behind depth) e n (w depth) h
+turn_within If node behind depth e n w h = chosen_within false node (behind (depth + 1)) e n (w (depth + 1)) h
+turn_within Ifdef node behind depth e n w h = chosen_within false node (behind (depth + 1)) e n (w (depth + 1)) h
+turn_within Ifndef node behind depth e n w h = chosen_within false node (behind (depth + 1)) e n (w (depth + 1)) h
+turn_within Elif node behind depth e n w h = chosen_within (depth == 0) node (behind depth) e n (w depth) h
+turn_within Else node behind depth e n w h = chosen_within (depth == 0) node (behind depth) e n (w depth) h
+turn_within Endif node behind depth e n w h = chosen_within (depth == 0) node (behind (depth - 1)) e n (w (depth - 1)) h
+turn_within Define node behind depth e n w h = chosen_within false node (behind depth) e n (w depth) h
+turn_within Undef node behind depth e n w h = chosen_within false node (behind depth) e n (w depth) h
+turn_within Include node behind depth e n w h = chosen_within false node (behind depth) e n (w depth) h
+turn_within Once node behind depth e n w h = chosen_within false node (behind depth) e n (w depth) h
+turn_within Error node behind depth e n w h = chosen_within false node (behind depth) e n (w depth) h
+turn_within Other node behind depth e n w h = chosen_within false node (behind depth) e n (w depth) h
+
+next_within : (kinds : List NodeKind) (node depth e : ℕ) → next_turn kinds node depth ≡ Some e → (node ≤ e) × (e < node + length kinds)
+next_within [] node depth e h = absurd (cc)
+next_within (kind ∷ kinds) node depth e h =
+    turn_within kind node (next_turn kinds (node + 1)) depth e (length kinds) (λ d g. next_within kinds (node + 1) d e g) h
+
+by_kind : (b : Bool) (behind : List NodeKind) (node e : ℕ) → (if b then next_turn behind (node + 1) 0 else None) ≡ Some e
+  → (node < e) × (e < node + 1 + length behind)
+by_kind true behind node e h =
+    let w = next_within behind (node + 1) 0 e h in
+    (omega (arith, w.0), omega (arith, w.1))
+by_kind false behind node e h = absurd (cc)
+
+by_entry : (kind : Option NodeKind) (behind : List NodeKind) (node e : ℕ) → end_behind kind behind node ≡ Some e → (node < e) × (e < node + 1 + length behind)
+by_entry None behind node e h = absurd (cc)
+by_entry (Some kind) behind node e h = by_kind (opens_group kind) behind node e h
+
+-- a group ends behind its beginning
+pub end_within : (kinds : List NodeKind) (node : ℕ) (end : Option ℕ) → node ≤ length kinds → end ≡ group_end_of kinds node
+  → MatchOption end (Unit {0}) (λ e. (node < e) × (e ≤ length kinds))
+end_within kinds node None few h = tt
+end_within kinds node (Some e) few h =
+    let w = by_entry (slice_get kinds (node - 1)) (drop node kinds) node e (sym h) in
+    (w.0, omega (arith, w.1, length-drop node kinds))

@@ -1,5 +1,5 @@
 //! The tree of a source.
-ghost use Rattle.std.specs.Prelude.{◌≡◌, ◌<◌, ◌≤◌, ◌-◌, length, slice_get, Some, ◌↔◌, IsTrue};
+ghost use Rattle.std.specs.Prelude.{◌≡◌, ◌<◌, ◌≤◌, ◌-◌, length, slice_get, Some, ◌↔◌, IsTrue, IfSome};
 ghost use Rattle.std.specs.Option.{option_map};
 ghost use Rattle.std.specs.List.{flat_map};
 ghost use Rattle.cb_lines.specs.Lines.{AreMaximal, span_lines};
@@ -78,7 +78,8 @@ impl Tree {
     /// The number of the `#elif`, `#else` or `#endif` that ends the group which a node begins, none where it begins none.
     pub fn group_end(&self, node: u32) -> Option<u32>
         requires { (1 ≤ node) × (node ≤ length self.now) }
-        ensures { result ≡ group_end_of (kinds_of self.now) node }
+        ensures end { result ≡ group_end_of (kinds_of self.now) node }
+        ensures behind { IfSome result (λ end. (node < end) × (end ≤ length self.now)) }
     {
         let ends = self.ends.as_slice();
         ends[node as usize - 1]
