@@ -8,7 +8,7 @@ use Rattle.cb_tree.specs.Groups.{end_behind, ends_from, group_end_of, turn_at, n
 
 -- the entry at a place
 pub entry_at : (kinds : List NodeKind) (node i : ℕ) (d : Option ℕ) → i < length kinds
-  → get_or (ends_from node kinds) i d ≡ end_behind (slice_get kinds i) (drop (suc i) kinds) (node + i)
+    → get_or (ends_from node kinds) i d ≡ end_behind (slice_get kinds i) (drop (suc i) kinds) (node + i)
 entry_at [] node i d h = absurd (omega arith)
 entry_at (kind ∷ kinds) node zero d h =
     let e : node ≡ node + 0 = omega arith in
@@ -19,7 +19,7 @@ entry_at (kind ∷ kinds) node (suc i) d h =
 
 -- the entry of a node
 pub end_at : (kinds : List NodeKind) (ends : List (Option ℕ)) (node : ℕ) (d : Option ℕ) → 1 ≤ node → node ≤ length kinds → ends ≡ ends_from 1 kinds
-  → get_or ends (node - 1) d ≡ group_end_of kinds node
+    → get_or ends (node - 1) d ≡ group_end_of kinds node
 end_at kinds ends node d low high h =
     let e : suc (node - 1) ≡ node = omega arith in
     let f : 1 + (node - 1) ≡ node = omega arith in
@@ -34,7 +34,7 @@ length-ends_from (kind ∷ kinds) node = ap suc (length-ends_from kinds (node + 
 
 -- a turn that a node is, or that comes behind it
 chosen_within : (b : Bool) (node : ℕ) (rest : Option ℕ) (e n : ℕ) → (rest ≡ Some e → (node + 1 ≤ e) × (e < node + 1 + n))
-  → (if b then Some node else rest) ≡ Some e → (node ≤ e) × (e < node + suc n)
+    → (if b then Some node else rest) ≡ Some e → (node ≤ e) × (e < node + suc n)
 chosen_within true node rest e n behind h =
     let same : node ≡ e = cc in
     (omega arith, omega arith)
@@ -43,8 +43,8 @@ chosen_within false node rest e n behind h =
     (omega (arith, w.0), omega (arith, w.1))
 
 turn_within : (kind : NodeKind) (node : ℕ) (behind : ℕ → Option ℕ) (depth e n : ℕ)
-  → ((d : ℕ) → behind d ≡ Some e → (node + 1 ≤ e) × (e < node + 1 + n))
-  → turn_at kind node behind depth ≡ Some e → (node ≤ e) × (e < node + suc n)
+    → ((d : ℕ) → behind d ≡ Some e → (node + 1 ≤ e) × (e < node + 1 + n))
+    → turn_at kind node behind depth ≡ Some e → (node ≤ e) × (e < node + suc n)
 turn_within Text node behind depth e n w h = chosen_within false node (behind depth) e n (w depth) h
 turn_within If node behind depth e n w h = chosen_within false node (behind (depth + 1)) e n (w (depth + 1)) h
 turn_within Ifdef node behind depth e n w h = chosen_within false node (behind (depth + 1)) e n (w (depth + 1)) h
@@ -65,7 +65,7 @@ next_within (kind ∷ kinds) node depth e h =
     turn_within kind node (next_turn kinds (node + 1)) depth e (length kinds) (λ d g. next_within kinds (node + 1) d e g) h
 
 by_kind : (b : Bool) (behind : List NodeKind) (node e : ℕ) → (if b then next_turn behind (node + 1) 0 else None) ≡ Some e
-  → (node < e) × (e < node + 1 + length behind)
+    → (node < e) × (e < node + 1 + length behind)
 by_kind true behind node e h =
     let w = next_within behind (node + 1) 0 e h in
     (omega (arith, w.0), omega (arith, w.1))
@@ -77,7 +77,7 @@ by_entry (Some kind) behind node e h = by_kind (opens_group kind) behind node e 
 
 -- a group ends behind its beginning
 pub end_within : (kinds : List NodeKind) (node : ℕ) (end : Option ℕ) → node ≤ length kinds → end ≡ group_end_of kinds node
-  → MatchOption end (Unit {0}) (λ e. (node < e) × (e ≤ length kinds))
+    → MatchOption end (Unit {0}) (λ e. (node < e) × (e ≤ length kinds))
 end_within kinds node None few h = tt
 end_within kinds node (Some e) few h =
     let w = by_entry (slice_get kinds (node - 1)) (drop node kinds) node e (sym h) in

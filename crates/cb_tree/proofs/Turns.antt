@@ -30,24 +30,24 @@ inner : (depth : ℕ) → (suc depth == 0) ≡ false
 inner depth = ne_eqb (suc depth) 0 (omega arith)
 
 opened : (kinds : List NodeKind) (node : ℕ) (turns : List ℕ) → AreTurns kinds (node + 1) turns
-  → (depth : ℕ) → next_turn kinds (node + 1) (depth + 1) ≡ at (drop 1 turns) depth
+    → (depth : ℕ) → next_turn kinds (node + 1) (depth + 1) ≡ at (drop 1 turns) depth
 opened kinds node turns h depth =
     h.each (depth + 1) ∙ (ap (at turns) (add-one depth) ∙ behind_first turns depth)
 
 turned : (kinds : List NodeKind) (node : ℕ) (turns : List ℕ) → AreTurns kinds (node + 1) turns
-  → (depth : ℕ) → (if depth == 0 then Some node else next_turn kinds (node + 1) depth) ≡ at (node ∷ drop 1 turns) depth
+    → (depth : ℕ) → (if depth == 0 then Some node else next_turn kinds (node + 1) depth) ≡ at (node ∷ drop 1 turns) depth
 turned kinds node turns h zero = refl
 turned kinds node turns h (suc depth) = rw (inner depth) (h.each (suc depth) ∙ behind_first turns depth)
 
 closed : (kinds : List NodeKind) (node : ℕ) (turns : List ℕ) → AreTurns kinds (node + 1) turns
-  → (depth : ℕ) → (if depth == 0 then Some node else next_turn kinds (node + 1) (depth - 1)) ≡ at (node ∷ turns) depth
+    → (depth : ℕ) → (if depth == 0 then Some node else next_turn kinds (node + 1) (depth - 1)) ≡ at (node ∷ turns) depth
 closed kinds node turns h zero = refl
 closed kinds node turns h (suc depth) =
     let e : suc depth - 1 ≡ depth = omega arith in
     rw (inner depth) (ap (next_turn kinds (node + 1)) e ∙ h.each depth)
 
 turns_more : (kind : NodeKind) (kinds : List NodeKind) (node : ℕ) (turns : List ℕ) → AreTurns kinds (node + 1) turns
-  → AreTurns (kind ∷ kinds) node (turns_with kind node turns)
+    → AreTurns (kind ∷ kinds) node (turns_with kind node turns)
 turns_more Text kinds node turns h = record { each = h.each }
 turns_more If kinds node turns h = record { each = opened kinds node turns h }
 turns_more Ifdef kinds node turns h = record { each = opened kinds node turns h }
@@ -78,21 +78,21 @@ back_start kinds left h =
     record {
       within = omega arith;
       ends_are = rw e refl;
-      turns_are = rw e (turns_none (left + 1))
+      turns_are = rw e (turns_none (left + 1));
     }
 
 back_by : (kinds : List NodeKind) (m : ℕ) (kind : NodeKind) (ends : List (Option ℕ)) (turns : List ℕ) → Back kinds (suc m) ends turns
-  → drop m kinds ≡ kind ∷ drop (suc m) kinds → Back kinds m (end_by kind turns ∷ ends) (turns_with kind (suc m) turns)
+    → drop m kinds ≡ kind ∷ drop (suc m) kinds → Back kinds m (end_by kind turns ∷ ends) (turns_with kind (suc m) turns)
 back_by kinds m kind ends turns b e =
     let first : front_of turns ≡ next_turn (drop (suc m) kinds) (suc m + 1) 0 = front_is turns ∙ sym (b.turns_are.each 0) in
     record {
       within = omega (arith, b.within);
       ends_are = rw (e, add-one m, first, b.ends_are) refl;
-      turns_are = rw (e, add-one m) (turns_more kind (drop (suc m) kinds) (suc m) turns b.turns_are)
+      turns_are = rw (e, add-one m) (turns_more kind (drop (suc m) kinds) (suc m) turns b.turns_are);
     }
 
 pub back_more : (kinds : List NodeKind) (left m : ℕ) (kind : NodeKind) (ends : List (Option ℕ)) (turns : List ℕ) → Back kinds left ends turns
-  → left ≡ m + 1 → kind ≡ get_or kinds m kind → Back kinds m (end_by kind turns ∷ ends) (turns_with kind left turns)
+    → left ≡ m + 1 → kind ≡ get_or kinds m kind → Back kinds m (end_by kind turns ∷ ends) (turns_with kind left turns)
 back_more kinds left m kind ends turns b e kind_is =
     let l : left ≡ suc m = e ∙ add-one m in
     let within : m < length kinds = omega (arith, b.within) in

@@ -10,14 +10,14 @@ pub bounds-ends-node : goal.bounds-ends-node
 bounds-ends-node c =
     let v : map node_value c.self.inside.nodes.items ≡ c.args.self.now = c.self.view_is in
     let e : c.as_slice-ends.result.now ≡ ends_from 1 (kinds_of c.args.self.now) =
-      c.as_slice-ends.ensures.value ∙ (c.self.invariant.ends_are ∙ ap (λ (x : List Node). ends_from 1 (kinds_of x)) v) in
+    c.as_slice-ends.ensures.value ∙ (c.self.invariant.ends_are ∙ ap (λ (x : List Node). ends_from 1 (kinds_of x)) v) in
     omega (arith, ap length e, length-ends_from (kinds_of c.args.self.now) 1, length-map c.args.self.now (λ n. n.kind), c.requires)
 
 pub returns-clause-end : goal.returns-clause-end
 returns-clause-end c =
     let v : map node_value c.self.inside.nodes.items ≡ c.args.self.now = c.self.view_is in
     let e : c.as_slice-ends.result.now ≡ ends_from 1 (kinds_of c.args.self.now) =
-      c.as_slice-ends.ensures.value ∙ (c.self.invariant.ends_are ∙ ap (λ (x : List Node). ends_from 1 (kinds_of x)) v) in
+    c.as_slice-ends.ensures.value ∙ (c.self.invariant.ends_are ∙ ap (λ (x : List Node). ends_from 1 (kinds_of x)) v) in
     let few : c.args.node ≤ length (kinds_of c.args.self.now) = omega (arith, length-map c.args.self.now (λ n. n.kind), c.requires) in
     end_at (kinds_of c.args.self.now) c.as_slice-ends.result.now c.args.node _ c.requires.0 few e
 
@@ -25,7 +25,7 @@ pub returns-clause-behind : goal.returns-clause-behind
 returns-clause-behind c =
     let v : map node_value c.self.inside.nodes.items ≡ c.args.self.now = c.self.view_is in
     let e : c.as_slice-ends.result.now ≡ ends_from 1 (kinds_of c.args.self.now) =
-      c.as_slice-ends.ensures.value ∙ (c.self.invariant.ends_are ∙ ap (λ (x : List Node). ends_from 1 (kinds_of x)) v) in
+    c.as_slice-ends.ensures.value ∙ (c.self.invariant.ends_are ∙ ap (λ (x : List Node). ends_from 1 (kinds_of x)) v) in
     let few : c.args.node ≤ length (kinds_of c.args.self.now) = omega (arith, length-map c.args.self.now (λ n. n.kind), c.requires) in
     let f = end_at (kinds_of c.args.self.now) c.as_slice-ends.result.now c.args.node _ c.requires.0 few e in
     rw (← length-map c.args.self.now (λ n. n.kind)) (end_within (kinds_of c.args.self.now) c.args.node _ few f)
