@@ -14,3 +14,6 @@ pub mod Built
 pub mod Bones
 pub mod Turns
 pub mod GroupEnds
+pub mod Nested
+pub mod FrameSteps
+pub mod NestSteps

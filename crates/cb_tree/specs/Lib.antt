@@ -6,3 +6,5 @@ pub mod Reads
 pub mod Trees
 pub mod Skeleton
 pub mod Groups
+pub mod Nesting
+pub mod Frames
