@@ -1,12 +1,14 @@
 //! From a source to its tree.
-ghost use Rattle.std.specs.Prelude.{List, ℕ, ◌≡◌, ◌⊎◌, ◌≤◌, length, map, IfOk, IfErr};
+ghost use Rattle.std.specs.Prelude.{List, ℕ, ◌≡◌, ◌⊎◌, ◌≤◌, length, map, [], None, IfOk, IfErr};
 ghost use Rattle.cb_tree.specs.Sound.{IsRead, Reading, Sound, Unsound};
 ghost use Rattle.cb_tree.specs.Nodes.{total_lines};
+ghost use Rattle.cb_tree.specs.Sections.{first_fault};
 ghost use Rattle.cb_tree.specs.Reads.{IsReadAs, node_value};
 ghost use Rattle.cb_tree.specs.declared.fault.BadSource.{BadSource as Fault};
 
 use crate::fault::BuildFault;
 use crate::groups::group_ends;
+use crate::nesting::nest;
 use crate::node::NodeData;
 use crate::sequence::read_nodes;
 use crate::size::check_size;
@@ -18,6 +20,7 @@ use std::alloc::Global;
 /// The nodes of a source.
 fn read_source(alloc: Global, source: &[u8]) -> Result<Vec<NodeData>, BuildFault>
     ensures nodes { IfOk result (λ nodes. IsRead source.now (Sound (map node_value nodes.items))) }
+    ensures no_fault { IfOk result (λ nodes. first_fault (map node_value nodes.items) [] ≡ None) }
     ensures few { IfOk result (λ nodes. length nodes.items ≤ 4194304) }
     ensures few_lines { IfOk result (λ nodes. total_lines (map node_value nodes.items) ≤ 4194304) }
     ensures fault { IfErr result (IsReadAs source.now) }
@@ -59,7 +62,13 @@ pub fn build(alloc: Global, source: &[u8]) -> Result<Tree, BuildFault>
     let nodes = read_source(alloc, source)?;
     let total = total_of(nodes.as_slice());
     let ends = group_ends(alloc, nodes.as_slice())?;
-    Ok(Tree { nodes, total, ends })
+    let parts = nest(alloc, nodes.as_slice())?;
+    Ok(Tree {
+        nodes,
+        total,
+        ends,
+        parts,
+    })
 }
 
 #[cfg(test)]

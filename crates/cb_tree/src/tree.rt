@@ -5,10 +5,12 @@ ghost use Rattle.std.specs.List.{flat_map};
 ghost use Rattle.cb_lines.specs.Lines.{AreMaximal, span_lines};
 ghost use Rattle.cb_tree.specs.Nodes.{node_line, node_rest, first_of, total_lines};
 ghost use Rattle.cb_tree.specs.Groups.{kinds_of, group_end_of};
+ghost use Rattle.cb_tree.specs.Nesting.{places_of, places_from};
 ghost use Rattle.cb_tree.specs.Skeleton.{skeleton};
 
 use crate::kind;
 use crate::node::{NodeData, NodeKind};
+use crate::part::{Part, Parts};
 use crate::skeleton::are_same_bones;
 use cb_lines::{Lines, Span};
 use cb_tokens::Token;
@@ -20,6 +22,7 @@ pub struct Tree {
     pub(crate) nodes: Vec<NodeData>,
     pub(crate) total: u64,
     pub(crate) ends: Vec<Option<u32>>,
+    pub(crate) parts: Parts,
 }
 
 impl Model for Tree {
@@ -33,7 +36,7 @@ impl Model for Tree {
 
     ghost view = { λ t. map node_value t.nodes.items };
 
-    ghost invariant = { λ t. IsKept t.nodes.items t.total t.ends.items };
+    ghost invariant = { λ t. IsKept t.nodes.items t.total t.ends.items t.parts };
 }
 
 /// The least number of spans; 0 where there is none.
@@ -83,6 +86,13 @@ impl Tree {
     {
         let ends = self.ends.as_slice();
         ends[node as usize - 1]
+    }
+
+    /// The nodes in order, nested as their if sections. Read from front to back they are all nodes, each once and in its role.
+    pub fn parts(&self) -> &[Part]
+        ensures { places_of result.now ≡ places_from 1 (kinds_of self.now) }
+    {
+        self.parts.as_slice()
     }
 
     /// The tokens of a directive behind its name, or behind its `#` where no identifier follows that; none of text.
