@@ -22,14 +22,14 @@ pub record Stands (kind : NodeKind) (before after : List OpenSection) : Type 0 w
   pub depth : length after ≡ depth_after (role_of kind) (length before)
 
 opens : (b : Bool) (fault : BadSource) (s : OpenSection) (ss after : List OpenSection)
-  → (if b then Err fault else Ok (s ∷ ss)) ≡ Ok after → length after ≡ length ss + 1
+    → (if b then Err fault else Ok (s ∷ ss)) ≡ Ok after → length after ≡ length ss + 1
 opens true fault s ss after h = absurd (cc)
 opens false fault s ss after h =
     let e : s ∷ ss ≡ after = cc in
     omega (arith, ap length e)
 
 keeps : (b : Bool) (fault : BadSource) (s t : OpenSection) (ss after : List OpenSection)
-  → (if b then Err fault else Ok (t ∷ ss)) ≡ Ok after → length after ≡ length (s ∷ ss)
+    → (if b then Err fault else Ok (t ∷ ss)) ≡ Ok after → length after ≡ length (s ∷ ss)
 keeps true fault s t ss after h = absurd (cc)
 keeps false fault s t ss after h =
     let e : t ∷ ss ≡ after = cc in
@@ -65,7 +65,7 @@ pub record Goes (kind : NodeKind) (nodes : List Node) (before : List OpenSection
   pub no_fault : first_fault nodes after ≡ None
 
 goes_by : (r : Result (List OpenSection) BadSource) (kind : NodeKind) (line : ℕ) (nodes : List Node) (before : List OpenSection)
-  → sections_after kind line before ≡ r → fault_or r (first_fault nodes) ≡ None → Goes kind nodes before
+    → sections_after kind line before ≡ r → fault_or r (first_fault nodes) ≡ None → Goes kind nodes before
 goes_by (Err fault) kind line nodes before e h = absurd (cc)
 goes_by (Ok after) kind line nodes before e h = record { after = after; stands = stands kind line before after e; no_fault = h }
 
@@ -74,14 +74,14 @@ goes n nodes before h = goes_by (sections_after n.kind (node_line n) before) n.k
 
 -- one more place
 places-push : (node : ℕ) (kinds : List NodeKind) (kind : NodeKind)
-  → places_from node (kinds ++ kind ∷ []) ≡ places_from node kinds ++ record { role = role_of kind; node = node + length kinds } ∷ []
+    → places_from node (kinds ++ kind ∷ []) ≡ places_from node kinds ++ record { role = role_of kind; node = node + length kinds } ∷ []
 places-push node [] kind =
     let e : node ≡ node + 0 = omega arith in
     ap (λ n. record { role = role_of kind; node = n } ∷ []) e
 places-push node (k ∷ ks) kind =
     let e : (node + 1) + length ks ≡ node + length (k ∷ ks) = omega arith in
     ap (λ (l : List Placed). record { role = role_of k; node = node } ∷ l)
-        (places-push (node + 1) ks kind ∙ ap (λ n. places_from (node + 1) ks ++ record { role = role_of kind; node = n } ∷ []) e)
+    (places-push (node + 1) ks kind ∙ ap (λ n. places_from (node + 1) ks ++ record { role = role_of kind; node = n } ∷ []) e)
 
 -- the first nodes are placed, and the rest have no fault
 pub record Nested (nodes : List NodeData) (i : ℕ) (nesting : Nesting) : Type 0 where
@@ -95,42 +95,42 @@ nested_none nodes nesting e f h = record {
   sections = [];
   depth = rw e refl;
   places = rw (e, f) refl;
-  no_fault = h
+  no_fault = h;
 }
 
 split : (nodes : List NodeData) (i : ℕ) (n : NodeData) → i < length nodes → n ≡ get_or nodes i n → drop i nodes ≡ n ∷ drop (i + 1) nodes
 split nodes i n h e = rw (add-one i) (drop-cons nodes i n h ∙ ap (λ x. x ∷ drop (suc i) nodes) (sym e))
 
 step : (nodes : List NodeData) (i : ℕ) (n : NodeData) (nesting : Nesting) → i < length nodes → n ≡ get_or nodes i n → (a : Nested nodes i nesting)
-  → Goes n.kind (map node_value (drop (i + 1) nodes)) a.sections
+    → Goes n.kind (map node_value (drop (i + 1) nodes)) a.sections
 step nodes i n nesting h e a =
     goes (node_value n) (map node_value (drop (i + 1) nodes)) a.sections
-        (ap (λ (l : List NodeData). first_fault (map node_value l) a.sections) (sym (split nodes i n h e)) ∙ a.no_fault)
+    (ap (λ (l : List NodeData). first_fault (map node_value l) a.sections) (sym (split nodes i n h e)) ∙ a.no_fault)
 
 pub may_stand : (nodes : List NodeData) (i : ℕ) (n : NodeData) (nesting : Nesting) → i < length nodes → n ≡ get_or nodes i n → Nested nodes i nesting
-  → MayStand (role_of n.kind) (length nesting.frames.items)
+    → MayStand (role_of n.kind) (length nesting.frames.items)
 may_stand nodes i n nesting h e a = subst (MayStand (role_of n.kind)) a.depth (step nodes i n nesting h e a).stands.may
 
 pub nested_more : (nodes : List NodeData) (i : ℕ) (n : NodeData) (nesting new : Nesting) → i < length nodes → n ≡ get_or nodes i n → Nested nodes i nesting
-  → IsPlaced nesting (role_of n.kind) (i + 1) new → Nested nodes (i + 1) new
+    → IsPlaced nesting (role_of n.kind) (i + 1) new → Nested nodes (i + 1) new
 nested_more nodes i n nesting new h e a p =
     let g = step nodes i n nesting h e a in
     let len : length (kinds_of (map node_value (take i nodes))) ≡ i =
-      length-map (map node_value (take i nodes)) (λ m. m.kind) ∙ (length-map (take i nodes) node_value ∙ length-take-le i nodes (omega arith)) in
+    length-map (map node_value (take i nodes)) (λ m. m.kind) ∙ (length-map (take i nodes) node_value ∙ length-take-le i nodes (omega arith)) in
     let number : 1 + length (kinds_of (map node_value (take i nodes))) ≡ i + 1 = omega (arith, len) in
     let more : take (i + 1) nodes ≡ take i nodes ++ n ∷ [] = take_more nodes i n h ∙ ap (λ x. take i nodes ++ x ∷ []) (sym e) in
     let kinds : kinds_of (map node_value (take (i + 1) nodes)) ≡ kinds_of (map node_value (take i nodes)) ++ n.kind ∷ [] =
-      ap (λ (l : List NodeData). kinds_of (map node_value l)) more
-      ∙ (ap kinds_of (map-append node_value (take i nodes) (n ∷ [])) ∙ map-append (λ m. m.kind) (map node_value (take i nodes)) (node_value n ∷ [])) in
+    ap (λ (l : List NodeData). kinds_of (map node_value l)) more
+    ∙ (ap kinds_of (map-append node_value (take i nodes) (n ∷ [])) ∙ map-append (λ m. m.kind) (map node_value (take i nodes)) (node_value n ∷ [])) in
     record {
       sections = g.after;
       depth = g.stands.depth ∙ (ap (depth_after (role_of n.kind)) a.depth ∙ sym p.depth);
       places =
-        p.places
-        ∙ (ap (λ (l : List Placed). l ++ record { role = role_of n.kind; node = i + 1 } ∷ []) a.places
-        ∙ (ap (λ x. places_from 1 (kinds_of (map node_value (take i nodes))) ++ record { role = role_of n.kind; node = x } ∷ []) (sym number)
-        ∙ (sym (places-push 1 (kinds_of (map node_value (take i nodes))) n.kind) ∙ ap (places_from 1) (sym kinds))));
-      no_fault = g.no_fault
+          p.places
+          ∙ (ap (λ (l : List Placed). l ++ record { role = role_of n.kind; node = i + 1 } ∷ []) a.places
+          ∙ (ap (λ x. places_from 1 (kinds_of (map node_value (take i nodes))) ++ record { role = role_of n.kind; node = x } ∷ []) (sym number)
+          ∙ (sym (places-push 1 (kinds_of (map node_value (take i nodes))) n.kind) ∙ ap (places_from 1) (sym kinds))));
+      no_fault = g.no_fault;
     }
 
 none_open : (sections : List OpenSection) → fault_at_end sections ≡ None → length sections ≡ 0
@@ -145,7 +145,7 @@ no_frames : (nesting : Nesting) → length nesting.frames.items ≡ 0 → nested
 no_frames nesting h = ap (λ (l : List Placed). l ++ places_of nesting.parts) (none_placed nesting.frames.items h)
 
 pub nested_all : (nodes : List NodeData) (i : ℕ) (nesting : Nesting) → length nodes ≤ i → Nested nodes i nesting
-  → places_of nesting.parts ≡ places_from 1 (kinds_of (map node_value nodes))
+    → places_of nesting.parts ≡ places_from 1 (kinds_of (map node_value nodes))
 nested_all nodes i nesting h a =
     let e : fault_at_end a.sections ≡ None = ap (λ (l : List NodeData). first_fault (map node_value l) a.sections) (sym (drop_all i nodes h)) ∙ a.no_fault in
     sym (no_frames nesting (sym a.depth ∙ none_open a.sections e))

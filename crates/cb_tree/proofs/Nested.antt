@@ -13,7 +13,7 @@ joined_places [] = refl
 joined_places (p ∷ ps) = ap (λ x. places_in p ++ x) (joined_places ps)
 
 group_is : (head : ℕ) (parts : List Part)
-  → fold-Group (List Placed) GroupPlaces (List Placed) part_step group_step section_step (roll-Group (record { head = head; parts = parts }))
+    → fold-Group (List Placed) GroupPlaces (List Placed) part_step group_step section_step (roll-Group (record { head = head; parts = parts }))
     ≡ record { head = head; inner = places_of parts }
 group_is head parts =
     fold-roll-Group (List Placed) GroupPlaces (List Placed) part_step group_step section_step (record { head = head; parts = parts })
@@ -21,7 +21,7 @@ group_is head parts =
 
 -- one more group
 pub inner_more : (gs : List Group) (head : ℕ) (parts : List Part)
-  → inner_places (gs ++ roll-Group (record { head = head; parts = parts }) ∷ []) ≡ inner_places gs ++ record { head = head; inner = places_of parts } ∷ []
+    → inner_places (gs ++ roll-Group (record { head = head; parts = parts }) ∷ []) ≡ inner_places gs ++ record { head = head; inner = places_of parts } ∷ []
 inner_more gs head parts =
     map-append (fold-Group (List Placed) GroupPlaces (List Placed) part_step group_step section_step) gs (roll-Group (record { head = head; parts = parts }) ∷ [])
     ∙ ap (λ (x : GroupPlaces). inner_places gs ++ x ∷ []) (group_is head parts)

@@ -193,6 +193,7 @@ mod tests {
         assert_eq!(rt; tree.kind(7), NodeKind::Else);
         assert_eq!(rt; tree.group_end(7), Some(8));
         assert_eq!(rt; tree.total(), 10);
+        assert_eq!(rt; tree.parts().len(), 2);
         let same = build(
             rt.alloc(),
             b"x\n#if A\n#pragma once x\n#pragma twice\n#\ny\n#else\n#endif\n",

@@ -6,8 +6,8 @@ ghost use Rattle.cb_tree.specs.Groups.{kinds_of};
 ghost use Rattle.cb_tree.specs.Sections.{first_fault};
 ghost use Rattle.cb_tree.specs.Reads.{node_value};
 
-use crate::part::{Group, Groups, Part, Parts, Section};
 use crate::node::NodeData;
+use crate::part::{Group, Groups, Part, Parts, Section};
 use crate::role::{Role, find_role};
 use cb_paths::NoMemory;
 use sqlite_items::Items;
@@ -95,7 +95,11 @@ fn turn_section(alloc: Global, nesting: Nesting, node: u32) -> Result<Nesting, N
     let Some(frame) = frames.pop() else {
         unreachable!()
     };
-    let Frame { before, groups, head } = frame;
+    let Frame {
+        before,
+        groups,
+        head,
+    } = frame;
     let groups = with_group(groups, head, parts)?;
     let frame = Frame {
         before,
@@ -118,7 +122,11 @@ fn close_section(nesting: Nesting, node: u32) -> Result<Nesting, NoMemory>
     let Some(frame) = frames.pop() else {
         unreachable!()
     };
-    let Frame { before, groups, head } = frame;
+    let Frame {
+        before,
+        groups,
+        head,
+    } = frame;
     let groups = with_group(groups, head, parts)?;
     let parts = with_section(before, groups, node)?;
     Ok(Nesting { frames, parts })

@@ -85,11 +85,11 @@ impl Sections {
     {
         match self.pop() {
             None => Err(fault(SourceKind::StrayElif, line)),
-            Some(section) => {
-                if section.has_else {
+            Some(innermost) => {
+                if innermost.has_else {
                     return Err(fault(SourceKind::AfterElse, line));
                 }
-                self.push(section.line, section.has_else)
+                self.push(innermost.line, innermost.has_else)
             }
         }
     }
