@@ -1,4 +1,4 @@
-pub mod Words
+pub mod Wrapped
 pub mod Reading
 pub mod Complete
 pub mod Sound

@@ -5,5 +5,6 @@ mod bad_condition;
 mod meaning;
 mod operations;
 mod symbol;
+mod words;
 
 pub use bad_condition::BadCondition;

@@ -79,7 +79,7 @@ fn shifted_right(unsigned: bool, a: u64, b: u64) -> Value
 }
 
 /// The bits that an operator makes of those of both operands.
-#[tactic(auto, using(crate::proofs::Words::bits_wrapped), unfolding(crate::specs::Values::operated, crate::specs::Values::wrapped, crate::specs::Values::truth, crate::specs::Values::quotient, crate::specs::Values::remainder, crate::specs::Values::shift_right))]
+#[tactic(auto, using(crate::proofs::Wrapped::bits_wrapped), unfolding(crate::specs::Values::operated, crate::specs::Values::wrapped, crate::specs::Values::truth, crate::specs::Values::quotient, crate::specs::Values::remainder, crate::specs::Values::shift_right))]
 fn operate(operator: Operator, a_unsigned: bool, b_unsigned: bool, a: u64, b: u64) -> Value
     ensures { result ≡ wrapped (operated operator a_unsigned b_unsigned a b) }
 {
