@@ -2,3 +2,4 @@ pub mod Wrapped
 pub mod Reading
 pub mod Complete
 pub mod Sound
+pub mod Digits

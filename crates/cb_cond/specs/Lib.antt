@@ -1,3 +1,6 @@
 pub mod Grammar
 pub mod Values
 pub mod Words
+pub mod Integers
+pub mod Characters
+pub mod Symbols

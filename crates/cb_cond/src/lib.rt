@@ -2,9 +2,12 @@
 #![tactic(auto)]
 
 mod bad_condition;
+mod characters;
+mod integers;
 mod meaning;
 mod operations;
 mod symbol;
+mod symbols;
 mod words;
 
 pub use bad_condition::BadCondition;
