@@ -3,3 +3,4 @@ pub mod Reading
 pub mod Complete
 pub mod Sound
 pub mod Digits
+pub mod Runs

@@ -4,3 +4,4 @@ pub mod Words
 pub mod Integers
 pub mod Characters
 pub mod Symbols
+pub mod Prefixes

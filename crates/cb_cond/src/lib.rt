@@ -6,6 +6,7 @@ mod characters;
 mod integers;
 mod meaning;
 mod operations;
+mod prefixes;
 mod symbol;
 mod symbols;
 mod words;
