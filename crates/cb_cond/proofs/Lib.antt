@@ -4,3 +4,5 @@ pub mod Complete
 pub mod Sound
 pub mod Digits
 pub mod Runs
+pub mod Closing
+pub mod Image

@@ -22,7 +22,7 @@ unfoldable pub FitsRun : Prefixes → Type 0
 FitsRun (Linear negative plus) = Unit {0}
 FitsRun (Test operand there elsewhere) = operand < 2 ^ 64
 
-FitsRun-extended : (r : Prefixes) (p : Prefix) → FitsRun r → FitsRun (extended r p)
+pub FitsRun-extended : (r : Prefixes) (p : Prefix) → FitsRun r → FitsRun (extended r p)
 unfolding FitsRun extended
 FitsRun-extended (Linear n c) Not h = omega arith
 FitsRun-extended (Linear n c) Complement h = tt
@@ -65,7 +65,7 @@ unfolding after_left wrapped truth
 test-not o a b true = ap (λ w. Bits (cond w a b)) (eqb-same o 1 1 o sym sym)
 test-not o a b false = ap (λ w. Bits (cond w a b)) (eqb-same o 0 0 o sym sym)
 
-applied-bits : (r : Prefixes) (p : Prefix) (u : Bool) (x : ℕ) → FitsRun r → x < 2 ^ 64
+pub applied-bits : (r : Prefixes) (p : Prefix) (u : Bool) (x : ℕ) → FitsRun r → x < 2 ^ 64
     → applied (extended r p) (record { unsigned = u; value = Bits x }) ≡ applied r (unary p (record { unsigned = u; value = Bits x }))
 unfolding FitsRun extended applied unary prefix_is_unsigned prefix_value after_left wrapped
 applied-bits (Linear n c) Not u x h k = ap (λ (w : Value). record { unsigned = false; value = w }) (linear-not n c (eqb x 0))

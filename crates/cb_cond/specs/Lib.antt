@@ -5,3 +5,5 @@ pub mod Integers
 pub mod Characters
 pub mod Symbols
 pub mod Prefixes
+pub mod Frames
+pub mod Faults

@@ -3,6 +3,7 @@
 
 mod bad_condition;
 mod characters;
+mod frames;
 mod integers;
 mod meaning;
 mod operations;
