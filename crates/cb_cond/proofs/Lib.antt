@@ -6,3 +6,4 @@ pub mod Digits
 pub mod Runs
 pub mod Closing
 pub mod Image
+pub mod Room

@@ -124,7 +124,7 @@ keeps k j (Answered b c ∷ fs) a s t h l =
     keeps-answered k j b c a fs s h l (λ e w. keeps k 0 fs (Choose b c a) s.3 s.2 w (omega arith)) (eqb k 0) refl
 
 -- the symbols are read so
-unfoldable Good : Reading → List Symbol → Type 0
+unfoldable pub Good : Reading → List Symbol → Type 0
 Good (Awaits fs ps) ss = Sound fs × (ss ≡ written fs ++ prefixes ps)
 Good (Has fs a) ss = Sound fs × StandsAt a 12 × (ss ≡ written fs ++ spelling a)
 Good Failed ss = Unit {0}
@@ -198,7 +198,7 @@ good-step (Awaits fs ps) ss s h = good-awaiting fs ps ss s h.0 h.1
 good-step (Has fs a) ss s h = good-holding fs a ss s h.0 h.1 h.2
 good-step Failed ss s h = tt
 
-good-run : (ts ss : List Symbol) (r : Reading) → Good r ss → Good (run ts r) (ss ++ ts)
+pub good-run : (ts ss : List Symbol) (r : Reading) → Good r ss → Good (run ts r) (ss ++ ts)
 unfolding run
 good-run [] ss r h = rw append-nil h
 good-run (t ∷ ts) ss r h = rw (← append_assoc ss (t ∷ []) ts) (good-run ts (ss ++ t ∷ []) (step r t) (good-step r ss t h))

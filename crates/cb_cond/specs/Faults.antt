@@ -44,3 +44,14 @@ IsAnswer ss (Err bad.ZeroDivisor) = (¬ (IsTooDeep ss)) × ((tree : Tree) × IsC
 IsAnswer ss (Err bad.Shift) = (¬ (IsTooDeep ss)) × ((tree : Tree) × IsCondition ss tree × ((meaning tree).value ≡ values.Shift))
 IsAnswer ss (Ok holds) =
     (¬ (IsTooDeep ss)) × ((tree : Tree) × (bits : ℕ) × IsCondition ss tree × ((meaning tree).value ≡ values.Bits bits) × (holds ≡ not (bits == 0)))
+
+-- a room of n frames is enough: at most ten operators wait between two constructs that are open (own)
+abbrev pub HasRoom : List Symbol → ℕ → Type 0
+HasRoom ss n =
+    (deepest : ℕ) × ((k : ℕ) → count_by is_open (take k ss) ≤ count_by is_close (take k ss) + deepest)
+    × (11 * (deepest + count_by is_question ss) + 11 ≤ n)
+
+-- what a list of symbols is read as: the meaning of its tree, or nothing where it has none
+abbrev pub IsReadAs : List Symbol → Option Meaning → Type 0
+IsReadAs ss None = (tree : Tree) → ¬ (IsCondition ss tree)
+IsReadAs ss (Some m) = (tree : Tree) × IsCondition ss tree × (m ≡ meaning tree)
