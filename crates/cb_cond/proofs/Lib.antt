@@ -7,3 +7,5 @@ pub mod Runs
 pub mod Closing
 pub mod Image
 pub mod Room
+pub mod Along
+pub mod Depth

@@ -34,14 +34,14 @@ asks (Asked a ∷ fs) = asks fs + 1
 asks (Answered a b ∷ fs) = asks fs + 1
 
 -- the level of the innermost place
-unfoldable rank : List Place → ℕ
+unfoldable pub rank : List Place → ℕ
 rank [] = 1
 rank (Left o a ∷ fs) = level o
 rank (Inside ps ∷ fs) = 1
 rank (Asked a ∷ fs) = 1
 rank (Answered a b ∷ fs) = 1
 
-rank-below : (fs : List Place) → rank fs < 12
+pub rank-below : (fs : List Place) → rank fs < 12
 unfolding rank
 rank-below [] = omega arith
 rank-below (Left o a ∷ fs) = level-below o
@@ -58,7 +58,7 @@ rank-stays o (Asked a ∷ fs) h = level-above o
 rank-stays o (Answered a b ∷ fs) h = level-above o
 
 -- operators bind more tightly than those below them, so at most ten stand between two that are open
-few : (fs : List Place) → Sound fs → length fs + 1 ≤ 11 * (insides fs + asks fs) + rank fs
+pub few : (fs : List Place) → Sound fs → length fs + 1 ≤ 11 * (insides fs + asks fs) + rank fs
 unfolding Sound insides asks rank
 few [] h = omega arith
 few (Left o a ∷ fs) h = let l = few fs h.2 in let r = rank-stays o fs h.1 in omega arith
@@ -90,9 +90,9 @@ counts-collapse k (Answered b c ∷ fs) a =
         (record { same = h.same; fewer = omega arith }) (record { same = refl; fewer = omega arith })
 
 -- what is open, by the symbols that were read
-record Holds (fs : List Place) (ss : List Symbol) : Type 0 where
-  parentheses : insides fs + count_by is_close ss ≡ count_by is_open ss
-  choices : asks fs ≤ count_by is_question ss
+pub record Holds (fs : List Place) (ss : List Symbol) : Type 0 where
+  pub parentheses : insides fs + count_by is_close ss ≡ count_by is_open ss
+  pub choices : asks fs ≤ count_by is_question ss
 
 holds-from : (fs gs : List Place) (ss : List Symbol) (s : Symbol) (o c q : ℕ) → cond (is_open s) 1 0 ≡ o → cond (is_close s) 1 0 ≡ c → cond (is_question s) 1 0 ≡ q
     → Holds fs ss → insides gs + c ≡ insides fs + o → asks gs ≤ asks fs + q → Holds gs (ss ++ s ∷ [])
@@ -102,7 +102,7 @@ holds-from fs gs ss s o c q x y z h e l =
     let d = sum_by_push (λ t. cond (is_question t) 1 0) ss s in
     record { parentheses = omega arith; choices = omega arith }
 
-unfoldable Counted : Reading → List Symbol → Type 0
+unfoldable pub Counted : Reading → List Symbol → Type 0
 Counted (Awaits fs ps) ss = Holds fs ss
 Counted (Has fs a) ss = Holds fs ss
 Counted Failed ss = Unit {0}
@@ -153,7 +153,7 @@ counted-step (Awaits fs ps) ss s h = counted-awaiting fs ps ss s h
 counted-step (Has fs a) ss s h = counted-holding fs a ss s h
 counted-step Failed ss s h = tt
 
-counted-run : (ts ss : List Symbol) (r : Reading) → Counted r ss → Counted (run ts r) (ss ++ ts)
+pub counted-run : (ts ss : List Symbol) (r : Reading) → Counted r ss → Counted (run ts r) (ss ++ ts)
 unfolding run
 counted-run [] ss r h = rw append-nil h
 counted-run (t ∷ ts) ss r h = rw (← append_assoc ss (t ∷ []) ts) (counted-run ts (ss ++ t ∷ []) (step r t) (counted-step r ss t h))

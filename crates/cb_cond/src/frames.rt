@@ -225,7 +225,7 @@ fn read_behind(frames: &mut [Frame], top: usize, operand: Meaning, symbol: Symbo
 
 /// Reads one symbol more.
 #[tactic(auto, unfolding(crate::specs::Frames::step))]
-fn read_symbol(frames: &mut [Frame], position: Position, symbol: Symbol) -> Option<Position>
+pub(crate) fn read_symbol(frames: &mut [Frame], position: Position, symbol: Symbol) -> Option<Position>
     requires room { 0 < position.top }
     requires within { position.top ≤ length frames.old }
     ensures read { read_of frames.new result ≡ step (drop position.top frames.old) position.held symbol }
@@ -239,7 +239,7 @@ fn read_symbol(frames: &mut [Frame], position: Position, symbol: Symbol) -> Opti
 
 /// The meaning of all that was read, where nothing waits for its end.
 #[tactic(auto, using(crate::proofs::Closing::frame_steps), unfolding(crate::specs::Frames::whole_of, crate::specs::Frames::alone))]
-fn whole(frames: &[Frame], position: Position) -> Option<Meaning>
+pub(crate) fn whole(frames: &[Frame], position: Position) -> Option<Meaning>
     requires { position.top ≤ length frames.now }
     ensures { result ≡ whole_of (drop position.top frames.now) position.held }
 {

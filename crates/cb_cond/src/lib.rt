@@ -3,9 +3,11 @@
 
 mod bad_condition;
 mod characters;
+mod evaluation;
 mod frames;
 mod integers;
 mod meaning;
+mod nesting;
 mod operations;
 mod prefixes;
 mod symbol;
