@@ -9,3 +9,4 @@ pub mod Image
 pub mod Room
 pub mod Along
 pub mod Depth
+pub mod Wide

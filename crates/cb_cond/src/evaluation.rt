@@ -1,10 +1,12 @@
 //! The meaning of a whole condition.
-ghost use Rattle.std.specs.Prelude.{◌≡◌, ℕ, ◌<◌, ◌≤◌, ◌+◌, ◌*◌, length};
+ghost use Rattle.std.specs.Prelude.{◌≡◌, ℕ, ◌<◌, ◌≤◌, ◌+◌, ◌*◌, length, take};
+ghost use Rattle.std.specs.List.{count_by};
 ghost use Rattle.cb_cond.specs.Symbols.{symbols};
-ghost use Rattle.cb_cond.specs.Faults.{HasRoom, IsReadAs};
+ghost use Rattle.cb_cond.specs.Faults.{HasRoom, IsReadAs, is_open, is_close, is_question};
 
 use crate::frames::{Frame, Held, Position, read_symbol, whole};
 use crate::meaning::Meaning;
+use crate::nesting::Nesting;
 use crate::prefixes::Prefixes;
 use crate::symbols::token_symbol;
 use cb_paths::Language;
@@ -27,4 +29,49 @@ fn meaning_in(language: Language, tokens: &[Token], frames: &mut [Frame]) -> Opt
         position = next;
     }
     whole(frames, position)
+}
+
+/// The frames that conditions with at most `FEW` open constructs need.
+const FEW_FRAMES: usize = 66;
+
+/// The parentheses and choices that may be open at once where few frames are enough.
+const FEW: usize = 5;
+
+/// The frames that every condition needs that is not too deep: eleven for each construct that may be open, and eleven.
+const ALL_FRAMES: usize = 5643;
+
+/// The meaning of a condition that is nested a little.
+#[inline(never)]
+fn meaning_in_few(language: Language, tokens: &[Token]) -> Option<Meaning>
+    requires { HasRoom (symbols language tokens.now) FEW_FRAMES }
+    ensures { IsReadAs (symbols language tokens.now) result }
+{
+    let mut frames = [Frame::Inside(Prefixes::NONE); FEW_FRAMES];
+    meaning_in(language, tokens, &mut frames)
+}
+
+/// The meaning of any condition that is not too deep.
+#[inline(never)]
+fn meaning_in_all(language: Language, tokens: &[Token]) -> Option<Meaning>
+    requires { HasRoom (symbols language tokens.now) ALL_FRAMES }
+    ensures { IsReadAs (symbols language tokens.now) result }
+{
+    let mut frames = [Frame::Inside(Prefixes::NONE); ALL_FRAMES];
+    meaning_in(language, tokens, &mut frames)
+}
+
+/// The meaning of a condition of which it is known how deeply it is nested.
+pub(crate) fn meaning_of(language: Language, tokens: &[Token], nesting: Nesting) -> Option<Meaning>
+    requires parentheses { nesting.parentheses ≤ 256 }
+    requires questions { nesting.questions ≤ 256 }
+    requires bounded { (k : ℕ) → count_by is_open (take k (symbols language tokens.now))
+        ≤ count_by is_close (take k (symbols language tokens.now)) + nesting.parentheses }
+    requires counted { nesting.questions ≡ count_by is_question (symbols language tokens.now) }
+    ensures { IsReadAs (symbols language tokens.now) result }
+{
+    if nesting.parentheses + nesting.questions <= FEW {
+        meaning_in_few(language, tokens)
+    } else {
+        meaning_in_all(language, tokens)
+    }
 }

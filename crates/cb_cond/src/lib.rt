@@ -3,6 +3,7 @@
 
 mod bad_condition;
 mod characters;
+mod condition;
 mod evaluation;
 mod frames;
 mod integers;
@@ -12,6 +13,8 @@ mod operations;
 mod prefixes;
 mod symbol;
 mod symbols;
+
 mod words;
 
 pub use bad_condition::BadCondition;
+pub use condition::value;
