@@ -91,11 +91,11 @@ read-end language tokens i fs h o l e w =
     rw w (read-whole (map (symbol language) tokens) fs h (rw all at e))
 
 below : (gs : List Place) (ts : List Symbol) (deepest q n : ℕ) → Sound gs → Holds gs ts → count_by is_open ts ≤ count_by is_close ts + deepest
-    → count_by is_question ts ≤ q → 11 * (deepest + q) + 11 ≤ n → length gs < n
+    → count_by is_question ts ≤ q → 11 * deepest + q + 11 ≤ n → length gs < n
 below gs ts deepest q n s h o c l = let f = few gs s in let r = rank-below gs in omega arith
 
 room-of : (r : Reading) (ts : List Symbol) (deepest q n : ℕ) (fs : List Frame) (h : Held) → Good r ts → Counted r ts → image r ≡ Some (record { frames = fs; held = h })
-    → count_by is_open ts ≤ count_by is_close ts + deepest → count_by is_question ts ≤ q → 11 * (deepest + q) + 11 ≤ n → length fs < n
+    → count_by is_open ts ≤ count_by is_close ts + deepest → count_by is_question ts ≤ q → 11 * deepest + q + 11 ≤ n → length fs < n
 unfolding Good Counted image
 room-of (Awaits gs ps) ts deepest q n fs h g c e o w l =
     let read : ◌≡◌ {A = frames.Read} (record { frames = map frame_of gs; held = held.Awaits (composed ps) }) (record { frames = fs; held = h }) = cc in

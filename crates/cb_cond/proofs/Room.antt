@@ -57,14 +57,22 @@ rank-stays o (Inside ps ∷ fs) h = level-above o
 rank-stays o (Asked a ∷ fs) h = level-above o
 rank-stays o (Answered a b ∷ fs) h = level-above o
 
--- operators bind more tightly than those below them, so at most ten stand between two that are open
-pub few : (fs : List Place) → Sound fs → length fs + 1 ≤ 11 * (insides fs + asks fs) + rank fs
+rank-none : (fs : List Place) → Stays 0 fs → rank fs ≡ 1
+unfolding rank Stays
+rank-none [] h = refl
+rank-none (Left o a ∷ fs) h = omega arith
+rank-none (Inside ps ∷ fs) h = refl
+rank-none (Asked a ∷ fs) h = refl
+rank-none (Answered a b ∷ fs) h = refl
+
+-- operators bind more tightly than those below them, so at most ten stand on what is open, and none below a choice
+pub few : (fs : List Place) → Sound fs → length fs + 1 ≤ 11 * insides fs + asks fs + rank fs
 unfolding Sound insides asks rank
 few [] h = omega arith
 few (Left o a ∷ fs) h = let l = few fs h.2 in let r = rank-stays o fs h.1 in omega arith
 few (Inside ps ∷ fs) h = let l = few fs h in let r = rank-below fs in omega arith
-few (Asked a ∷ fs) h = let l = few fs h.2 in let r = rank-below fs in omega arith
-few (Answered a b ∷ fs) h = let l = few fs h.3 in let r = rank-below fs in omega arith
+few (Asked a ∷ fs) h = let l = few fs h.2 in let r = rank-none fs h.1 in omega arith
+few (Answered a b ∷ fs) h = let l = few fs h.3 in let r = rank-none fs h.2 in omega arith
 
 -- no other places are open
 record Counts (fs gs : List Place) : Type 0 where

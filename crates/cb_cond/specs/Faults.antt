@@ -45,11 +45,12 @@ IsAnswer ss (Err bad.Shift) = (¬ (IsTooDeep ss)) × ((tree : Tree) × IsConditi
 IsAnswer ss (Ok holds) =
     (¬ (IsTooDeep ss)) × ((tree : Tree) × (bits : ℕ) × IsCondition ss tree × ((meaning tree).value ≡ values.Bits bits) × (holds ≡ not (bits == 0)))
 
--- a room of n frames is enough: at most ten operators wait between two constructs that are open (own)
+-- a room of n frames is enough: each level of operators may wait once in each open parenthesis, and no operator waits in a
+-- condition in front of a question mark (own; no public clause rests on it)
 abbrev pub HasRoom : List Symbol → ℕ → Type 0
 HasRoom ss n =
     (deepest : ℕ) × ((k : ℕ) → count_by is_open (take k ss) ≤ count_by is_close (take k ss) + deepest)
-    × (11 * (deepest + count_by is_question ss) + 11 ≤ n)
+    × (11 * deepest + count_by is_question ss + 11 ≤ n)
 
 -- what a list of symbols is read as: the meaning of its tree, or nothing where it has none
 abbrev pub IsReadAs : List Symbol → Option Meaning → Type 0

@@ -31,14 +31,11 @@ fn meaning_in(language: Language, tokens: &[Token], frames: &mut [Frame]) -> Opt
     whole(frames, position)
 }
 
-/// The frames that conditions with at most `FEW` open constructs need.
-const FEW_FRAMES: usize = 66;
+/// The frames that are enough for most conditions.
+const FEW_FRAMES: usize = 64;
 
-/// The parentheses and choices that may be open at once where few frames are enough.
-const FEW: usize = 5;
-
-/// The frames that every condition needs that is not too deep: eleven for each construct that may be open, and eleven.
-const ALL_FRAMES: usize = 5643;
+/// The frames that are enough for each condition that is not too deep.
+const ALL_FRAMES: usize = 3083;
 
 /// The meaning of a condition that is nested a little.
 #[inline(never)]
@@ -60,6 +57,16 @@ fn meaning_in_all(language: Language, tokens: &[Token]) -> Option<Meaning>
     meaning_in(language, tokens, &mut frames)
 }
 
+/// The frames that are enough for a condition: in each open parenthesis and outside an operator of each of the ten
+/// levels may wait, and then there are the parentheses and the choices themselves. One stays free.
+fn frames_for(nesting: Nesting) -> usize
+    requires parentheses { nesting.parentheses ≤ 256 }
+    requires questions { nesting.questions ≤ 256 }
+    ensures value { result ≡ 11 * nesting.parentheses + nesting.questions + 11 }
+{
+    11 * nesting.parentheses + nesting.questions + 11
+}
+
 /// The meaning of a condition of which it is known how deeply it is nested.
 pub(crate) fn meaning_of(language: Language, tokens: &[Token], nesting: Nesting) -> Option<Meaning>
     requires parentheses { nesting.parentheses ≤ 256 }
@@ -69,7 +76,7 @@ pub(crate) fn meaning_of(language: Language, tokens: &[Token], nesting: Nesting)
     requires counted { nesting.questions ≡ count_by is_question (symbols language tokens.now) }
     ensures { IsReadAs (symbols language tokens.now) result }
 {
-    if nesting.parentheses + nesting.questions <= FEW {
+    if frames_for(nesting) <= FEW_FRAMES {
         meaning_in_few(language, tokens)
     } else {
         meaning_in_all(language, tokens)
