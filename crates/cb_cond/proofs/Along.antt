@@ -122,4 +122,4 @@ counted-start = record { parentheses = refl; choices = omega arith }
 pub room : (ss : List Symbol) (n i : ℕ) (fs : List Frame) (h : Held) → HasRoom ss n → image (run (take i ss) start) ≡ Some (record { frames = fs; held = h }) → length fs < n
 room ss n i fs h k e =
     room-of (run (take i ss) start) (take i ss) k.0 (count_by is_question ss) n fs h (good-run (take i ss) [] start good-start) (counted-run (take i ss) [] start counted-start) e
-        (k.1 i) (sum_by-take-le (λ s. cond (is_question s) 1 0) ss i) k.2
+    (k.1 i) (sum_by-take-le (λ s. cond (is_question s) 1 0) ss i) k.2

@@ -43,7 +43,7 @@ pub bounded-all : (p q : Symbol → Bool) (language : Language) (tokens : List T
     → (k : ℕ) → count_by p (take k (symbols language tokens)) ≤ count_by q (take k (symbols language tokens)) + d
 bounded-all p q language tokens n d l h k =
     ⊎_elim (λ below. h k below)
-        (λ above. rw (whole-at language tokens k (omega arith)) (rw (whole-at language tokens n l) at (h n (omega arith)))) (cases_lt k (n + 1))
+    (λ above. rw (whole-at language tokens k (omega arith)) (rw (whole-at language tokens n l) at (h n (omega arith)))) (cases_lt k (n + 1))
 
 pub questions-all : (p : Symbol → Bool) (language : Language) (tokens : List Token) (n q : ℕ) → length tokens ≤ n → q ≡ count_by p (take n (symbols language tokens))
     → q ≡ count_by p (symbols language tokens)

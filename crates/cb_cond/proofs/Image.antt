@@ -135,7 +135,7 @@ closed-image k [] a = refl
 closed-image k (f ∷ fs) a =
     ap (λ v. cond v (frames.closed k (map frame_of fs) (frames.joined (frame_of f) (meaning a))) (image_closed (record { places = f ∷ fs; tree = a }))) (ends-frame k f)
     ∙ closed-if (ends k f) (collapse k fs (joined f a)) (record { places = f ∷ fs; tree = a }) _
-        (ap (frames.closed k (map frame_of fs)) (joined-frame f a) ∙ closed-image k fs (joined f a))
+    (ap (frames.closed k (map frame_of fs)) (joined-frame f a) ∙ closed-image k fs (joined f a))
 
 awaiting-image : (fs : List Place) (ps : List Prefix) (s : Symbol) → image (awaiting fs ps s) ≡ frames.awaiting (map frame_of fs) (composed ps) s
 unfolding image awaiting frames.awaiting prefixed prefix_of opened composed frame_of meaning wrapped

@@ -89,13 +89,13 @@ counts-collapse k [] a = record { same = refl; fewer = omega arith }
 counts-collapse k (Left o b ∷ fs) a =
     let h = counts-collapse k fs (joined (Left o b) a) in
     counts-if (leb k (level o)) (collapse k fs (joined (Left o b) a)) (record { places = Left o b ∷ fs; tree = a }) (Left o b ∷ fs)
-        (record { same = h.same; fewer = h.fewer }) (record { same = refl; fewer = omega arith })
+    (record { same = h.same; fewer = h.fewer }) (record { same = refl; fewer = omega arith })
 counts-collapse k (Inside ps ∷ fs) a = record { same = refl; fewer = omega arith }
 counts-collapse k (Asked b ∷ fs) a = record { same = refl; fewer = omega arith }
 counts-collapse k (Answered b c ∷ fs) a =
     let h = counts-collapse k fs (joined (Answered b c) a) in
     counts-if (eqb k 0) (collapse k fs (joined (Answered b c) a)) (record { places = Answered b c ∷ fs; tree = a }) (Answered b c ∷ fs)
-        (record { same = h.same; fewer = omega arith }) (record { same = refl; fewer = omega arith })
+    (record { same = h.same; fewer = omega arith }) (record { same = refl; fewer = omega arith })
 
 -- what is open, by the symbols that were read
 pub record Holds (fs : List Place) (ss : List Symbol) : Type 0 where

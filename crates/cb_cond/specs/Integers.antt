@@ -51,7 +51,7 @@ unfoldable pub base_of : List ℕ → ℕ
 base_of text =
     if slice_index text 0 == 48
     then (if (slice_index text 1 == 120) || (slice_index text 1 == 88) then 16
-        else (if (slice_index text 1 == 98) || (slice_index text 1 == 66) then 2 else 8))
+    else (if (slice_index text 1 == 98) || (slice_index text 1 == 66) then 2 else 8))
     else 10
 
 -- the bytes that only mark the base: 0x, 0X, 0b or 0B (6.4.4.1)
@@ -67,7 +67,7 @@ unfoldable pub with_suffix : ℕ → List ℕ → List ℕ → Symbol
 with_suffix base digits suffix =
     if are_digits base false digits
     then (if is_among signed_suffixes suffix then number (amount base digits) false
-        else (if is_among unsigned_suffixes suffix then number (amount base digits) true else Stray))
+    else (if is_among unsigned_suffixes suffix then number (amount base digits) true else Stray))
     else Stray
 
 -- a byte of the digits: a digit of the base, or a '

@@ -128,7 +128,7 @@ chosen_value a b c = after_left a (λ m. if m == 0 then c else b)
 unfoldable pub binary : Operator → Meaning → Meaning → Meaning
 binary o a b = record {
   unsigned = result_is_unsigned o a.unsigned b.unsigned;
-  value = wrapped (binary_value o a.unsigned b.unsigned a.value b.value)
+  value = wrapped (binary_value o a.unsigned b.unsigned a.value b.value);
 }
 
 -- the meaning of the result of an operator before its operand

@@ -202,7 +202,12 @@ fn leave(frames: &[Frame], top: usize, operand: Meaning) -> Option<Position>
 
 /// Reads a symbol behind an operand.
 #[tactic(auto, unfolding(crate::specs::Frames::holding, crate::specs::Frames::answered, crate::specs::Frames::parenthesized, crate::specs::Frames::opened, crate::specs::Frames::read_of))]
-fn read_behind(frames: &mut [Frame], top: usize, operand: Meaning, symbol: Symbol) -> Option<Position>
+fn read_behind(
+    frames: &mut [Frame],
+    top: usize,
+    operand: Meaning,
+    symbol: Symbol,
+) -> Option<Position>
     requires room { 0 < top }
     requires within { top ≤ length frames.old }
     ensures read { read_of frames.new result ≡ holding (drop top frames.old) operand symbol }
@@ -225,7 +230,11 @@ fn read_behind(frames: &mut [Frame], top: usize, operand: Meaning, symbol: Symbo
 
 /// Reads one symbol more.
 #[tactic(auto, unfolding(crate::specs::Frames::step))]
-pub(crate) fn read_symbol(frames: &mut [Frame], position: Position, symbol: Symbol) -> Option<Position>
+pub(crate) fn read_symbol(
+    frames: &mut [Frame],
+    position: Position,
+    symbol: Symbol,
+) -> Option<Position>
     requires room { 0 < position.top }
     requires within { position.top ≤ length frames.old }
     ensures read { read_of frames.new result ≡ step (drop position.top frames.old) position.held symbol }

@@ -157,7 +157,9 @@ fn digits_len(base: u64, text: &[u8]) -> usize
     ensures value { result ≡ prefix_len (is_digit_byte base) text.now }
     ensures within { result ≤ length text.now }
 {
-    text.iter().take_while(|byte| is_digit_of(base, **byte) || **byte == b'\'').count()
+    text.iter()
+        .take_while(|byte| is_digit_of(base, **byte) || **byte == b'\'')
+        .count()
 }
 
 /// What a number is to the grammar.
@@ -166,7 +168,11 @@ pub(crate) fn integer_symbol(text: &[u8]) -> Symbol
     ensures { result ≡ integer text.now }
 {
     let base = base(text);
-    let text = if base == 16 || base == 2 { &text[2..] } else { text };
+    let text = if base == 16 || base == 2 {
+        &text[2..]
+    } else {
+        text
+    };
     let (digits, suffix) = text.split_at(digits_len(base, text));
     suffixed(base, digits, suffix)
 }

@@ -13,7 +13,8 @@ mod operations;
 mod prefixes;
 mod symbol;
 mod symbols;
-
+#[cfg(test)]
+mod tests;
 mod words;
 
 pub use bad_condition::BadCondition;

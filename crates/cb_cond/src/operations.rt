@@ -36,7 +36,11 @@ fn divided(unsigned: bool, a: u64, b: u64) -> Value
     if unsigned {
         return Value::Bits(a / b);
     }
-    Value::Bits(a.cast_signed().wrapping_div(b.cast_signed()).cast_unsigned())
+    Value::Bits(
+        a.cast_signed()
+            .wrapping_div(b.cast_signed())
+            .cast_unsigned(),
+    )
 }
 
 /// The remainder of the quotient.
@@ -50,7 +54,11 @@ fn remaining(unsigned: bool, a: u64, b: u64) -> Value
     if unsigned {
         return Value::Bits(a % b);
     }
-    Value::Bits(a.cast_signed().wrapping_rem(b.cast_signed()).cast_unsigned())
+    Value::Bits(
+        a.cast_signed()
+            .wrapping_rem(b.cast_signed())
+            .cast_unsigned(),
+    )
 }
 
 /// The bits moved to the left.

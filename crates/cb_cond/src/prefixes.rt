@@ -54,7 +54,11 @@ impl Prefixes {
                 },
                 Prefix::Complement => Prefixes::Linear {
                     negative: !negative,
-                    plus: if negative { plus.wrapping_add(1) } else { plus.wrapping_sub(1) },
+                    plus: if negative {
+                        plus.wrapping_add(1)
+                    } else {
+                        plus.wrapping_sub(1)
+                    },
                 },
                 Prefix::Plus => self,
                 Prefix::Minus => Prefixes::Linear {
@@ -109,13 +113,7 @@ impl Prefixes {
                 operand,
                 there,
                 elsewhere,
-            } => {
-                if bits == operand {
-                    there
-                } else {
-                    elsewhere
-                }
-            }
+            } => { if bits == operand { there } else { elsewhere } }
         };
         Meaning {
             unsigned,

@@ -36,10 +36,7 @@ pub(crate) enum Prefix {
 #[derive(Clone, Copy, Debug, PartialEq, Eq)]
 pub(crate) enum Symbol {
     /// A number below 2^64, with its type.
-    Number {
-        bits: u64,
-        unsigned: bool,
-    },
+    Number { bits: u64, unsigned: bool },
     /// A binary operator. `+` and `-` may stand before an operand too.
     Between(Operator),
     /// `!`.

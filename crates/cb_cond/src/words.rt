@@ -53,7 +53,10 @@ fn word_symbol(language: Language, text: &[u8]) -> Symbol
     ensures { result ≡ word language text.now }
 {
     if let Language::C = language {
-        return Symbol::Number { bits: 0, unsigned: false };
+        return Symbol::Number {
+            bits: 0,
+            unsigned: false,
+        };
     }
     if is(text, b"and") {
         return Symbol::Between(Operator::And);
@@ -80,9 +83,15 @@ fn word_symbol(language: Language, text: &[u8]) -> Symbol
         return Symbol::Between(Operator::Unequal);
     }
     if is(text, b"true") {
-        return Symbol::Number { bits: 1, unsigned: false };
+        return Symbol::Number {
+            bits: 1,
+            unsigned: false,
+        };
     }
-    Symbol::Number { bits: 0, unsigned: false }
+    Symbol::Number {
+        bits: 0,
+        unsigned: false,
+    }
 }
 
 /// What an identifier is to the grammar: a `defined` that is left has no place in it.

@@ -23,7 +23,7 @@ pub tokens-preserved : goal.tokens-preserved
 unfolding read_of
 tokens-preserved c = record {
   read = step-read c.args.language c.args.tokens.now c.tokens.token-index c.token-item.result _ _ _ _ c.tokens-test.true c.token-item.is c.token_symbol-symbol.ensures c.tokens.invariant.read c.in-Some.ensures.read;
-  within = c.in-Some.ensures.within
+  within = c.in-Some.ensures.within;
 }
 
 pub returns : goal.returns

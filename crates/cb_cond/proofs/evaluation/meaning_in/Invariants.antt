@@ -8,5 +8,5 @@ use Rattle.cb_cond.proofs.evaluation.meaning_in.Given as goal
 abbrev pub invariant-tokens : goal.invariant-tokens
 invariant-tokens l = record {
   read : image (run (take l.token-index (symbols l.language l.tokens)) start) ≡ Some (record { frames = drop l.position.top l.frames; held = l.position.held });
-  within : l.position.top ≤ length l.frames
+  within : l.position.top ≤ length l.frames;
 }

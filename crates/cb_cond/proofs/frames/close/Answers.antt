@@ -14,7 +14,7 @@ frames-preserved c = record {
       ∙ sym (closed-next c.args.level c.args.frames.now c.frames.top _ c.frames.operand c.frames-test.true (sym c.if-not-ends_at.ensures))
       ∙ c.frames.invariant.value;
   above = omega arith;
-  within = omega arith
+  within = omega arith;
 }
 
 pub returns-clause-value : goal.returns-clause-value

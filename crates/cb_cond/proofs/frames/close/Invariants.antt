@@ -6,7 +6,7 @@ abbrev pub invariant-frames : goal.invariant-frames
 invariant-frames l = record {
   value : closed l.level (drop l.top l.frames) l.operand ≡ closed l.initial.level (drop l.initial.top l.initial.frames) l.initial.operand;
   above : l.initial.top ≤ l.top;
-  within : l.top ≤ length l.frames
+  within : l.top ≤ length l.frames;
 }
 
 abbrev pub decreases-frames : goal.decreases-frames

@@ -12,5 +12,5 @@ returns-in_default c =
     let whole = amount-within base digits (i + 1) c.requires in
     let next = amount-next base digits i (omega arith) in
     let e : next_amount base c.loop-byte.sum (get_or digits i 0) ≡ amount base (take (i + 1) digits) =
-        ap (λ s. next_amount base s (get_or digits i 0)) c.loop-byte.invariant ∙ sym next in
+    ap (λ s. next_amount base s (get_or digits i 0)) c.loop-byte.invariant ∙ sym next in
     omega arith

@@ -15,16 +15,18 @@ tokens-preserved c =
     let opened = next is_open c.opens.result c.from-opened.result c.tokens.opened c.opens.ensures c.from-opened.ensures c.tokens.invariant.opened in
     let closed = next is_close c.closes.result c.from-closed.result c.tokens.closed c.closes.ensures c.from-closed.ensures c.tokens.invariant.closed in
     let greatest : c.max-parentheses.result ≡ max c.tokens.parentheses (count_by is_open (take (i + 1) ss) - count_by is_close (take (i + 1) ss)) =
-        c.max-parentheses.ensures ∙ ap (max c.tokens.parentheses) (c.saturating_sub.ensures ∙ ap (λ n. n - (c.tokens.closed + c.from-closed.result)) opened ∙ ap (λ n. count_by is_open (take (i + 1) ss) - n) closed) in
+    c.max-parentheses.ensures ∙ ap (max c.tokens.parentheses) (c.saturating_sub.ensures ∙ ap (λ n. n - (c.tokens.closed + c.from-closed.result)) opened ∙ ap (λ n. count_by is_open (take (i + 1) ss) - n) closed) in
     record {
       opened = opened;
       closed = closed;
       questions = next is_question c.asks.result c.from-questions.result c.tokens.questions c.asks.ensures c.from-questions.ensures c.tokens.invariant.questions;
-      small = (bit-more c.opens.result c.tokens.opened c.from-opened.result i c.tokens.invariant.small.0 c.from-opened.ensures,
-          bit-more c.closes.result c.tokens.closed c.from-closed.result i c.tokens.invariant.small.1 c.from-closed.ensures,
-          bit-more c.asks.result c.tokens.questions c.from-questions.result i c.tokens.invariant.small.2 c.from-questions.ensures);
+      small = (
+        bit-more c.opens.result c.tokens.opened c.from-opened.result i c.tokens.invariant.small.0 c.from-opened.ensures,
+        bit-more c.closes.result c.tokens.closed c.from-closed.result i c.tokens.invariant.small.1 c.from-closed.ensures,
+        bit-more c.asks.result c.tokens.questions c.from-questions.result i c.tokens.invariant.small.2 c.from-questions.ensures,
+      );
       bounded = bounded-next (λ k. count_by is_open (take k ss)) (λ k. count_by is_close (take k ss)) i c.tokens.parentheses c.max-parentheses.result c.tokens.invariant.bounded greatest;
-      reached = reached-next (λ k. count_by is_open (take k ss)) (λ k. count_by is_close (take k ss)) i c.tokens.parentheses c.max-parentheses.result c.tokens.invariant.reached greatest
+      reached = reached-next (λ k. count_by is_open (take k ss)) (λ k. count_by is_close (take k ss)) i c.tokens.parentheses c.max-parentheses.result c.tokens.invariant.reached greatest;
     }
 
 pub returns-clause-bounded : goal.returns-clause-bounded

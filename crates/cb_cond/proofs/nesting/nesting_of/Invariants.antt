@@ -10,5 +10,5 @@ invariant-tokens l = record {
   questions : l.questions ≡ count_by is_question (take l.token-index (symbols l.language l.tokens));
   small : (l.opened ≤ l.token-index) × (l.closed ≤ l.token-index) × (l.questions ≤ l.token-index);
   bounded : (k : ℕ) → k < l.token-index + 1 → count_by is_open (take k (symbols l.language l.tokens)) ≤ count_by is_close (take k (symbols l.language l.tokens)) + l.parentheses;
-  reached : 0 < l.parentheses → (k : ℕ) × (count_by is_open (take k (symbols l.language l.tokens)) ≡ count_by is_close (take k (symbols l.language l.tokens)) + l.parentheses)
+  reached : 0 < l.parentheses → (k : ℕ) × (count_by is_open (take k (symbols l.language l.tokens)) ≡ count_by is_close (take k (symbols l.language l.tokens)) + l.parentheses);
 }
