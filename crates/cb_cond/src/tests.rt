@@ -3,6 +3,7 @@ use crate::{BadCondition, value};
 use cb_paths::{Bytes, Language, NoMemory};
 use cb_tokens::{Token, TokenKind};
 use std::alloc::Global;
+use std::process::Abort;
 use std::test::Fail;
 
 /// Conditions of C that hold.
@@ -365,55 +366,41 @@ fn nested(
     Ok(value(tokens.as_slice(), Language::C))
 }
 
-#[test]
-fn values_are_those_of_the_standard(rt: HostRuntime) -> Result<(), Fail> {
-    for text in HOLDS {
-        assert_eq!(rt; answer(rt.alloc(), text, Language::C)?, Ok(true), "{text}");
-    }
-    for text in FAILS {
-        assert_eq!(rt; answer(rt.alloc(), text, Language::C)?, Ok(false), "{text}");
-    }
-    for text in CXX_HOLDS {
-        assert_eq!(rt;
-            answer(rt.alloc(), text, Language::Cxx)?,
-            Ok(true),
-            "{text}"
-        );
+/// Each of the conditions has the answer.
+fn each_answers<R: Abort + Alloc<A = Global>>(
+    rt: &R,
+    texts: &[&str],
+    language: Language,
+    expected: Result<bool, BadCondition>,
+) -> Result<(), NoMemory> {
+    for text in texts {
+        let found = answer(rt.alloc(), text, language)?;
+        assert!(rt; found == expected, "{text}");
     }
     Ok(())
 }
 
 #[test]
+fn values_are_those_of_the_standard(rt: HostRuntime) -> Result<(), Fail> {
+    each_answers(&rt, &HOLDS, Language::C, Ok(true))?;
+    each_answers(&rt, &FAILS, Language::C, Ok(false))?;
+    each_answers(&rt, &CXX_HOLDS, Language::Cxx, Ok(true))?;
+    Ok(())
+}
+
+#[test]
 fn faults_are_told(rt: HostRuntime) -> Result<(), Fail> {
-    for text in MALFORMED {
-        assert_eq!(rt;
-            answer(rt.alloc(), text, Language::C)?,
-            Err(BadCondition::Malformed),
-            "{text}"
-        );
-    }
-    for text in ZERO_DIVISOR {
-        assert_eq!(rt;
-            answer(rt.alloc(), text, Language::C)?,
-            Err(BadCondition::ZeroDivisor),
-            "{text}"
-        );
-    }
-    for text in SHIFT {
-        assert_eq!(rt;
-            answer(rt.alloc(), text, Language::C)?,
-            Err(BadCondition::Shift),
-            "{text}"
-        );
-    }
-    for text in TOO_WIDE {
-        assert_eq!(rt;
-            answer(rt.alloc(), text, Language::C)?,
-            Err(BadCondition::TooWide),
-            "{text}"
-        );
-    }
-    assert_eq!(rt; value(&[], Language::C), Err(BadCondition::Malformed));
+    let malformed = Err(BadCondition::Malformed);
+    each_answers(&rt, &MALFORMED, Language::C, malformed)?;
+    each_answers(
+        &rt,
+        &ZERO_DIVISOR,
+        Language::C,
+        Err(BadCondition::ZeroDivisor),
+    )?;
+    each_answers(&rt, &SHIFT, Language::C, Err(BadCondition::Shift))?;
+    each_answers(&rt, &TOO_WIDE, Language::C, Err(BadCondition::TooWide))?;
+    assert!(rt; value(&[], Language::C) == Err(BadCondition::Malformed));
     Ok(())
 }
 
