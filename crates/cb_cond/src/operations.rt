@@ -1,5 +1,5 @@
 //! The operations on meanings.
-ghost use Rattle.std.specs.Prelude.{◌≡◌, ◌<◌, ◌^◌};
+ghost use Rattle.std.specs.Prelude.{◌≡◌, not, nat_lt};
 ghost use Rattle.cb_cond.specs.Values.{binary, unary, choose, operated, wrapped, is_decided, after_left, prefix_value, chosen_value, binary_value, result_is_unsigned, prefix_is_unsigned, is_less, quotient, remainder, shift_left, shift_right, truth};
 
 use crate::meaning::{Meaning, Value};
@@ -36,11 +36,8 @@ fn divided(unsigned: bool, a: u64, b: u64) -> Value
     if unsigned {
         return Value::Bits(a / b);
     }
-    Value::Bits(
-        a.cast_signed()
-            .wrapping_div(b.cast_signed())
-            .cast_unsigned(),
-    )
+    let quotient = a.cast_signed().wrapping_div(b.cast_signed());
+    Value::Bits(quotient.cast_unsigned())
 }
 
 /// The remainder of the quotient.
@@ -54,11 +51,15 @@ fn remaining(unsigned: bool, a: u64, b: u64) -> Value
     if unsigned {
         return Value::Bits(a % b);
     }
-    Value::Bits(
-        a.cast_signed()
-            .wrapping_rem(b.cast_signed())
-            .cast_unsigned(),
-    )
+    let remainder = a.cast_signed().wrapping_rem(b.cast_signed());
+    Value::Bits(remainder.cast_unsigned())
+}
+
+/// Whether a shift by the number has no value.
+fn shifts_too_far(by: u64) -> bool
+    ensures { result ≡ not (nat_lt by 64) }
+{
+    by >= 64
 }
 
 /// The bits moved to the left.
@@ -66,7 +67,7 @@ fn remaining(unsigned: bool, a: u64, b: u64) -> Value
 fn shifted_left(a: u64, b: u64) -> Value
     ensures { result ≡ wrapped (shift_left a b) }
 {
-    if b >= 64 {
+    if shifts_too_far(b) {
         return Value::Shift;
     }
     Value::Bits(a.wrapping_shl(b as u32))
@@ -77,7 +78,7 @@ fn shifted_left(a: u64, b: u64) -> Value
 fn shifted_right(unsigned: bool, a: u64, b: u64) -> Value
     ensures { result ≡ shift_right unsigned a b }
 {
-    if b >= 64 {
+    if shifts_too_far(b) {
         return Value::Shift;
     }
     if unsigned {
