@@ -10,3 +10,5 @@ pub mod Room
 pub mod Along
 pub mod Depth
 pub mod Wide
+pub mod Unique
+pub mod Constants

@@ -1,5 +1,5 @@
 -- Integer constants (6.4.4.1; binary ones and the ' are own, after C++14).
-use Rattle.std.specs.Prelude.{ℕ, ◌==◌, ◌+◌, ◌-◌, ◌*◌, ◌^◌, ◌&&◌, ◌||◌, Bool, true, false, nat_lt, nat_le, if◌then◌else◌, List, [], ◌∷◌, length, take, drop, slice_index, codes}
+use Rattle.std.specs.Prelude.{◌≡◌, ◌≢◌, ◌⊎◌, ◌++◌, ℕ, ◌==◌, ◌+◌, ◌-◌, ◌*◌, ◌^◌, ◌&&◌, ◌||◌, Bool, true, false, nat_lt, nat_le, if◌then◌else◌, List, [], ◌∷◌, length, take, drop, slice_index, codes}
 use Rattle.std.specs.List.{fold, prefix_len, list_any}
 use Rattle.std.specs.Str.{bytes_eq}
 use Rattle.cb_cond.specs.declared.symbol.Symbol.{Symbol}
@@ -82,3 +82,36 @@ behind_mark base text =
 -- what a number is to the grammar: an integer, or else in no form of it (6.4.4.1; 6.10.1, paragraph 1)
 unfoldable pub integer : List ℕ → Symbol
 integer text = behind_mark (base_of text) (drop (mark_len (base_of text)) text)
+
+-- the mark of a base, and how the digits behind it begin (6.4.4.1; binary ones are own)
+abbrev pub HasMark : ℕ → List ℕ → List ℕ → Type 0
+HasMark base mark digits =
+    ((base ≡ 16) × ((mark ≡ codes "0x") ⊎ (mark ≡ codes "0X")))
+    ⊎ ((base ≡ 2) × ((mark ≡ codes "0b") ⊎ (mark ≡ codes "0B")))
+    ⊎ ((base ≡ 8) × (mark ≡ []) × (slice_index digits 0 ≡ 48))
+    ⊎ ((base ≡ 10) × (mark ≡ []) × (slice_index digits 0 ≢ 48))
+
+-- the suffixes of a type (6.4.4.1)
+unfoldable pub suffixes : Bool → List (List ℕ)
+suffixes true = unsigned_suffixes
+suffixes false = signed_suffixes
+
+-- the text is an integer: a mark, digits and a suffix, which tells whether it says unsigned (6.4.4.1)
+pub record IsInteger (text : List ℕ) (n : ℕ) (unsigned : Bool) : Type 0 where
+  pub base : ℕ
+  pub mark : List ℕ
+  pub digits : List ℕ
+  pub suffix : List ℕ
+  pub spelled : text ≡ mark ++ (digits ++ suffix)
+  pub marked : HasMark base mark digits
+  pub in_base : are_digits base false digits ≡ true
+  pub suffixed : is_among (suffixes unsigned) suffix ≡ true
+  pub value : n ≡ amount base digits
+
+-- each integer is read as its number
+abbrev pub ReadsEachInteger : Type 0
+ReadsEachInteger = (text : List ℕ) (n : ℕ) (unsigned : Bool) → IsInteger text n unsigned → integer text ≡ number n unsigned
+
+-- nothing else is read as a number
+abbrev pub ReadsOnlyIntegers : Type 0
+ReadsOnlyIntegers = (text : List ℕ) → (integer text ≡ Stray) ⊎ ((n : ℕ) × (unsigned : Bool) × IsInteger text n unsigned)

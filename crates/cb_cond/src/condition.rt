@@ -1,5 +1,7 @@
 //! Whether a condition holds.
-ghost use Rattle.std.specs.Prelude.{◌≡◌, true, false};
+ghost use Rattle.std.specs.Prelude.{◌≡◌, Bool, true, false, Result};
+ghost use Rattle.cb_cond.specs.declared.bad_condition.BadCondition.{BadCondition};
+ghost use Rattle.cb_cond.specs.Integers.{ReadsEachInteger, ReadsOnlyIntegers};
 ghost use Rattle.cb_cond.specs.Grammar.{Tree, IsCondition};
 ghost use Rattle.cb_cond.specs.Symbols.{symbols};
 ghost use Rattle.cb_cond.specs.Faults.{IsAnswer, IsTooWide};
@@ -38,10 +40,13 @@ fn has_wide(language: Language, tokens: &[Token]) -> bool
 /// It holds where the value of its syntax tree is not 0. `TooDeep` is answered before `TooWide`, which is answered
 /// before `Malformed`; `ZeroDivisor` or `Shift` is what evaluation from the left meets first. An operand that is not
 /// evaluated, as the right one of `0 && 1 / 0`, makes no fault. No memory is taken.
-#[tactic(auto, using(crate::proofs::Complete::one_tree))]
+#[tactic(auto, using(crate::proofs::Unique::exact))]
 pub fn value(tokens: &[Token], language: Language) -> Result<bool, BadCondition>
     ensures answer { IsAnswer (symbols language tokens.now) result }
+    ensures one_answer { (a b : Result Bool BadCondition) → IsAnswer (symbols language tokens.now) a → IsAnswer (symbols language tokens.now) b → a ≡ b }
     ensures one_tree { (a b : Tree) → IsCondition (symbols language tokens.now) a → IsCondition (symbols language tokens.now) b → a ≡ b }
+    ensures each_integer { ReadsEachInteger }
+    ensures only_integers { ReadsOnlyIntegers }
 {
     let nesting = nesting_of(language, tokens);
     if nesting.parentheses > PARENTHESIS_LIMIT {
