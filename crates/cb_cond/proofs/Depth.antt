@@ -19,13 +19,14 @@ unfolding symbols
 whole-at language tokens n l = let long : length (map (symbol language) tokens) ≤ n = rw length-map l in take_all n _ long
 
 -- one token more
-pub count-next : (p : Symbol → Bool) (language : Language) (tokens : List Token) (i : ℕ) (item : Token) (s : Symbol) (v : Bool) (n t : ℕ) → i < length tokens
-    → item ≡ get_or tokens i item → s ≡ symbol language item → v ≡ p s → n ≡ bool_byte v → t ≡ count_by p (take i (symbols language tokens))
+pub count-next : (p : Symbol → Bool) (language : Language) (tokens : List Token) (i : ℕ) (item : Token) (v : Bool) (n t : ℕ) → i < length tokens
+    → item ≡ get_or tokens i item → v ≡ p (symbol language item) → n ≡ bool_byte v → t ≡ count_by p (take i (symbols language tokens))
     → t + n ≡ count_by p (take (i + 1) (symbols language tokens))
 unfolding symbols
-count-next p language tokens i item s v n t l e f g b a =
+count-next p language tokens i item v n t l e g b a =
     let long : i < length (map (symbol language) tokens) = rw length-map l in
-    let at : get_or (map (symbol language) tokens) i (symbol language item) ≡ s = get_or-map (symbol language) tokens i item (symbol language item) l ∙ ap (symbol language) (sym e) ∙ sym f in
+    let at : get_or (map (symbol language) tokens) i (symbol language item) ≡ symbol language item =
+        get_or-map (symbol language) tokens i item (symbol language item) l ∙ ap (symbol language) (sym e) in
     let more = by-test p (symbols language tokens) i (symbol language item) long v (ap p at ∙ sym g) in
     rw (a, b) (sym more)
 

@@ -12,3 +12,4 @@ pub mod Depth
 pub mod Wide
 pub mod Unique
 pub mod Constants
+pub mod Plain

@@ -48,7 +48,7 @@ pub fn value(tokens: &[Token], language: Language) -> Result<bool, BadCondition>
     ensures each_integer { ReadsEachInteger }
     ensures only_integers { ReadsOnlyIntegers }
 {
-    let nesting = nesting_of(language, tokens);
+    let nesting = nesting_of(tokens);
     if nesting.parentheses > PARENTHESIS_LIMIT {
         return Err(BadCondition::TooDeep);
     }

@@ -1,12 +1,12 @@
 //! How deeply a condition is nested.
 ghost use Rattle.std.specs.Prelude.{◌≡◌, ℕ, ◌+◌, ◌<◌, ◌≤◌, length, take};
 ghost use Rattle.std.specs.List.{count_by};
+ghost use Rattle.cb_paths.specs.declared.language.Language.{Language};
 ghost use Rattle.cb_cond.specs.Symbols.{symbols};
 ghost use Rattle.cb_cond.specs.Faults.{is_open, is_close, is_question};
 
 use crate::symbol::Symbol;
-use crate::symbols::token_symbol;
-use cb_paths::Language;
+use crate::symbols::outline_symbol;
 use cb_tokens::Token;
 
 /// How deeply a condition is nested.
@@ -44,19 +44,19 @@ fn asks(symbol: Symbol) -> bool
 
 /// How deeply the tokens of a condition are nested.
 #[tactic(auto)]
-pub(crate) fn nesting_of(language: Language, tokens: &[Token]) -> Nesting
-    ensures bounded { (k : ℕ) → count_by is_open (take k (symbols language tokens.now))
+pub(crate) fn nesting_of(tokens: &[Token]) -> Nesting
+    ensures bounded { (language : Language) (k : ℕ) → count_by is_open (take k (symbols language tokens.now))
         ≤ count_by is_close (take k (symbols language tokens.now)) + result.parentheses }
-    ensures reached { 0 < result.parentheses → (k : ℕ) × (count_by is_open (take k (symbols language tokens.now))
+    ensures reached { (language : Language) → 0 < result.parentheses → (k : ℕ) × (count_by is_open (take k (symbols language tokens.now))
         ≡ count_by is_close (take k (symbols language tokens.now)) + result.parentheses) }
-    ensures questions { result.questions ≡ count_by is_question (symbols language tokens.now) }
+    ensures questions { (language : Language) → result.questions ≡ count_by is_question (symbols language tokens.now) }
 {
     let mut opened: usize = 0;
     let mut closed: usize = 0;
     let mut parentheses: usize = 0;
     let mut questions: usize = 0;
     'tokens: for token in tokens {
-        let symbol = token_symbol(language, token);
+        let symbol = outline_symbol(token);
         opened += usize::from(opens(symbol));
         closed += usize::from(closes(symbol));
         questions += usize::from(asks(symbol));

@@ -1,6 +1,8 @@
 //! Tokens as symbols of the grammar.
 ghost use Rattle.std.specs.Prelude.{◌≡◌};
+ghost use Rattle.cb_paths.specs.declared.language.Language.{Language};
 ghost use Rattle.cb_cond.specs.Symbols.{symbol};
+ghost use Rattle.cb_cond.specs.Faults.{is_open, is_close, is_question};
 
 use crate::characters::character_symbol;
 use crate::integers::integer_symbol;
@@ -21,5 +23,18 @@ pub(crate) fn token_symbol(language: Language, token: &Token) -> Symbol
         TokenKind::Char => character_symbol(text),
         TokenKind::Punct => punctuator_symbol(text),
         TokenKind::Str | TokenKind::Other => Symbol::Stray,
+    }
+}
+
+/// What a punctuator is to the grammar, and nothing of another token: enough to see the parentheses and question marks.
+#[tactic(auto, unfolding(crate::specs::Symbols::symbol, crate::specs::Symbols::symbol_of))]
+pub(crate) fn outline_symbol(token: &Token) -> Symbol
+    ensures opens { (language : Language) → is_open result ≡ is_open (symbol language token.now) }
+    ensures closes { (language : Language) → is_close result ≡ is_close (symbol language token.now) }
+    ensures asks { (language : Language) → is_question result ≡ is_question (symbol language token.now) }
+{
+    match token.kind {
+        TokenKind::Punct => punctuator_symbol(token.text.as_slice()),
+        _ => Symbol::Stray,
     }
 }
