@@ -1,5 +1,5 @@
 -- Frames that are ended one by one
-use Rattle.std.proofs.Common.{◌≡◌, ℕ, ◌+◌, ◌<◌, ◌≤◌, Bool, true, false, cond, List, [], ◌∷◌, length, get_or, drop, Option, Some, None, refl, ap, sym, ◌∙◌, arith}
+use Rattle.std.proofs.Common.{◌≡◌, ℕ, ◌+◌, ◌<◌, ◌≤◌, true, false, List, length, get_or, drop, Some, None, refl, ap}
 use Rattle.std.proofs.lemmas.List.{drop_more, drop_all}
 use Rattle.cb_cond.specs.declared.meaning.Meaning.{Meaning}
 use Rattle.cb_cond.specs.declared.frames.Frame.{Frame}
@@ -7,11 +7,10 @@ use Rattle.cb_cond.specs.declared.frames.Frame.TheVariants.{Asked}
 use Rattle.cb_cond.specs.declared.frames.Held.TheVariants.{Awaits}
 use Rattle.cb_cond.specs.declared.prefixes.Prefixes.{Prefixes}
 use Rattle.cb_cond.specs.declared.symbol.Prefix.{Prefix}
-use Rattle.cb_cond.specs.declared.symbol.Prefix.TheVariants.{Not, Complement, Plus, Minus}
 use Rattle.cb_cond.specs.declared.symbol.Symbol.{Symbol}
 use Rattle.cb_cond.specs.declared.symbol.Symbol.TheVariants.{Number, Between, Exclamation, Tilde, OpenParenthesis, CloseParenthesis, Question, Colon, WideInteger, Stray}
 use Rattle.cb_cond.specs.Prefixes.{extended}
-use Rattle.cb_cond.specs.Frames.{ends, joined, Closed, closed, alone, prefix_of, prefixed, awaiting}
+use Rattle.cb_cond.specs.Frames.{ends, joined, closed, alone, prefix_of, prefixed, awaiting}
 
 pub closed-next : (k : ℕ) (fs : List Frame) (i : ℕ) (d : Frame) (a : Meaning) → i < length fs → ends k (get_or fs i d) ≡ true
     → closed k (drop i fs) a ≡ closed k (drop (i + 1) fs) (joined (get_or fs i d) a)

@@ -1,14 +1,14 @@
 -- Each condition is read as its tree.
-use Rattle.std.proofs.Common.{◌≡◌, ℕ, ◌+◌, ◌<◌, ◌≤◌, Bool, true, false, cond, List, [], ◌∷◌, ◌++◌, Option, Some, None, refl, ap, sym, ◌∙◌, subst, append_assoc, append-nil, arith, eqb, leb, tests, rules}
+use Rattle.std.proofs.Common.{◌≡◌, ℕ, ◌+◌, ◌<◌, ◌≤◌, true, false, List, [], ◌∷◌, ◌++◌, Some, refl, ap, sym, ◌∙◌, append_assoc, append-nil, arith, eqb, leb}
 use Rattle.std.proofs.lemmas.Bool.Decides.{nat_tests}
 use Rattle.cb_cond.specs.declared.symbol.Operator.{Operator}
-use Rattle.cb_cond.specs.declared.symbol.Operator.TheVariants.{Or, And, BitOr, BitXor, BitAnd, Equal, Unequal, Less, Greater, AtMost, AtLeast, ShiftLeft, ShiftRight, Add, Subtract, Multiply, Divide, Remainder}
+use Rattle.cb_cond.specs.declared.symbol.Operator.TheVariants.{Or}
 use Rattle.cb_cond.specs.declared.symbol.Prefix.{Prefix}
 use Rattle.cb_cond.specs.declared.symbol.Prefix.TheVariants.{Not, Complement, Plus, Minus}
 use Rattle.cb_cond.specs.declared.symbol.Symbol.{Symbol}
 use Rattle.cb_cond.specs.declared.symbol.Symbol.TheVariants.{Number, Between, Exclamation, Tilde, OpenParenthesis, CloseParenthesis, Question, Colon, WideInteger, Stray}
 use Rattle.cb_cond.specs.Grammar.{Tree, Leaf, Parens, Unary, Binary, Choose, level, prefix_symbol, spelling, StandsAt, IsCondition}
-use Rattle.cb_cond.proofs.Reading.{Place, Left, Inside, Asked, Answered, Reading, Awaits, Has, Failed, unaries, ends, joined, Closed, collapse, awaiting, answered, closed, holding, step, run, whole, ended, outcome}
+use Rattle.cb_cond.proofs.Reading.{Place, Left, Inside, Asked, Answered, Awaits, Has, unaries, ends, joined, Closed, collapse, awaiting, answered, closed, holding, step, run, whole, ended, outcome}
 
 -- how tightly the next symbol binds what stands before it
 unfoldable pub pulls : List Symbol → ℕ

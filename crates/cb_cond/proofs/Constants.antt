@@ -1,5 +1,5 @@
 -- What the code reads as an integer is one, and each integer is read so.
-use Rattle.std.proofs.Common.{◌≡◌, ◌≢◌, ℕ, zero, suc, ◌+◌, ◌-◌, ◌*◌, ◌<◌, ◌≤◌, ◌⊎◌, Bool, true, false, cond, ◌&&◌, ◌||◌, List, [], ◌∷◌, ◌++◌, length, get_or, take, drop, codes, refl, ap, sym, ◌∙◌, subst, inl, inr, ⊎_elim, arith, eqb, leb, ltb}
+use Rattle.std.proofs.Common.{◌≡◌, ◌≢◌, ℕ, zero, suc, ◌+◌, ◌<◌, ◌≤◌, ◌⊎◌, Bool, true, false, cond, ◌&&◌, ◌||◌, List, [], ◌∷◌, ◌++◌, length, get_or, take, drop, codes, refl, ap, sym, ◌∙◌, subst, inl, inr, ⊎_elim, arith, eqb, ltb}
 use Rattle.std.proofs.lemmas.Bool.Decides.{nat_tests}
 use Rattle.std.proofs.lemmas.Bool.{false≢true, and_parts}
 use Rattle.std.proofs.lemmas.List.{take-append-drop}
@@ -7,8 +7,7 @@ use Rattle.std.proofs.lemmas.Slice.Eq.{bytes_eq-Decides}
 use Rattle.std.proofs.Math.Seq.{take-append_seam, drop-append_seam}
 use Rattle.std.specs.List.{prefix_len, list_any}
 use Rattle.std.specs.Str.{bytes_eq}
-use Rattle.cb_cond.specs.declared.symbol.Symbol.{Symbol}
-use Rattle.cb_cond.specs.declared.symbol.Symbol.TheVariants.{Number, WideInteger, Stray}
+use Rattle.cb_cond.specs.declared.symbol.Symbol.TheVariants.{Stray}
 use Rattle.cb_cond.specs.Integers.{digit_value, is_digit, are_digits, amount, signed_suffixes, unsigned_suffixes, suffixes, is_among, base_of, mark_len, number, with_suffix, is_digit_byte, behind_mark, integer, HasMark, IsInteger}
 
 -- a letter of a suffix
@@ -271,14 +270,36 @@ read-if : (text : List ℕ) (k : ℕ) (v w x : Bool) (rest : List ℕ) → drop 
     → (with_suffix (base_of text) (take k rest) (drop k rest) ≡ Stray) ⊎ ((n : ℕ) × (u : Bool) × IsInteger text n u)
 unfolding suffixes
 read-if text k false w x rest r e f g = inl (unfold with_suffix in rw e refl)
-read-if text k true true x rest r e f g = inr (_, false, record {
-  base = base_of text; mark = take (mark_len (base_of text)) text; digits = take k rest; suffix = drop k rest;
-  spelled = read-spelled text k rest r; marked = read-marked text k rest r e; in_base = e; suffixed = f; value = refl
-})
-read-if text k true false true rest r e f g = inr (_, true, record {
-  base = base_of text; mark = take (mark_len (base_of text)) text; digits = take k rest; suffix = drop k rest;
-  spelled = read-spelled text k rest r; marked = read-marked text k rest r e; in_base = e; suffixed = g; value = refl
-})
+read-if text k true true x rest r e f g = inr (
+  _,
+  false,
+  record {
+    base = base_of text;
+    mark = take (mark_len (base_of text)) text;
+    digits = take k rest;
+    suffix = drop k rest;
+    spelled = read-spelled text k rest r;
+    marked = read-marked text k rest r e;
+    in_base = e;
+    suffixed = f;
+    value = refl;
+  },
+)
+read-if text k true false true rest r e f g = inr (
+  _,
+  true,
+  record {
+    base = base_of text;
+    mark = take (mark_len (base_of text)) text;
+    digits = take k rest;
+    suffix = drop k rest;
+    spelled = read-spelled text k rest r;
+    marked = read-marked text k rest r e;
+    in_base = e;
+    suffixed = g;
+    value = refl;
+  },
+)
 read-if text k true false false rest r e f g = inl (unfold with_suffix in rw (e, f, g) refl)
 
 -- what is read is an integer

@@ -1,5 +1,5 @@
 -- Counting symbols one by one.
-use Rattle.std.proofs.Common.{◌≡◌, ℕ, ◌+◌, ◌-◌, ◌<◌, ◌≤◌, ◌⊎◌, Bool, true, false, cond, List, length, get_or, take, map, count_by, max, ⊎_elim, refl, ap, sym, ◌∙◌, arith}
+use Rattle.std.proofs.Common.{◌≡◌, ℕ, ◌+◌, ◌-◌, ◌<◌, ◌≤◌, Bool, true, false, List, length, get_or, take, map, count_by, max, ⊎_elim, ap, sym, ◌∙◌, arith}
 use Rattle.std.proofs.lemmas.List.Sums.{count_by_more_no, count_by_more_yes}
 use Rattle.std.proofs.lemmas.Bool.{cases_lt}
 use Rattle.std.proofs.lemmas.List.{length-map, get_or-map, take_all}
@@ -8,7 +8,6 @@ use Rattle.cb_paths.specs.declared.language.Language.{Language}
 use Rattle.cb_tokens.specs.declared.token.Token.{Token}
 use Rattle.cb_cond.specs.declared.symbol.Symbol.{Symbol}
 use Rattle.cb_cond.specs.Symbols.{symbol, symbols}
-use Rattle.cb_cond.specs.Faults.{is_open, is_close, is_question}
 
 by-test : (p : Symbol → Bool) (ss : List Symbol) (i : ℕ) (s : Symbol) → i < length ss → (v : Bool) → p (get_or ss i s) ≡ v → count_by p (take (i + 1) ss) ≡ count_by p (take i ss) + bool_byte v
 by-test p ss i s h true e = count_by_more_yes p ss i s h e
@@ -26,7 +25,7 @@ unfolding symbols
 count-next p language tokens i item v n t l e g b a =
     let long : i < length (map (symbol language) tokens) = rw length-map l in
     let at : get_or (map (symbol language) tokens) i (symbol language item) ≡ symbol language item =
-        get_or-map (symbol language) tokens i item (symbol language item) l ∙ ap (symbol language) (sym e) in
+    get_or-map (symbol language) tokens i item (symbol language item) l ∙ ap (symbol language) (sym e) in
     let more = by-test p (symbols language tokens) i (symbol language item) long v (ap p at ∙ sym g) in
     rw (a, b) (sym more)
 

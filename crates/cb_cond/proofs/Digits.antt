@@ -1,5 +1,5 @@
 -- Digits one by one
-use Rattle.std.proofs.Common.{◌≡◌, ℕ, ◌+◌, ◌*◌, ◌<◌, ◌≤◌, Bool, true, false, cond, List, [], ◌∷◌, ◌&&◌, length, get_or, take, drop, refl, ap, sym, ◌∙◌, arith, eqb, rules}
+use Rattle.std.proofs.Common.{◌≡◌, ℕ, ◌+◌, ◌*◌, ◌<◌, ◌≤◌, Bool, true, false, cond, List, [], ◌∷◌, ◌&&◌, length, get_or, take, drop, ap, arith, eqb}
 use Rattle.std.proofs.Math.Nat.{mul-le-mul_left}
 use Rattle.std.proofs.lemmas.List.{at_drop_more, at_drop_all, take-append-drop}
 use Rattle.std.proofs.lemmas.List.Sums.{fold_more, fold-append}

@@ -1,14 +1,12 @@
 -- What the code reads is what is read over trees, with the meaning of each tree in its place.
-use Rattle.std.proofs.Common.{◌≡◌, ℕ, ◌+◌, ◌%◌, ◌^◌, ◌<◌, Bool, true, false, cond, List, [], ◌∷◌, map, Option, Some, None, option_map, refl, ap, sym, ◌∙◌, subst, arith, eqb, leb}
-use Rattle.cb_cond.specs.declared.symbol.Operator.{Operator}
-use Rattle.cb_cond.specs.declared.symbol.Operator.TheVariants.{Or, And, BitOr, BitXor, BitAnd, Equal, Unequal, Less, Greater, AtMost, AtLeast, ShiftLeft, ShiftRight, Add, Subtract, Multiply, Divide, Remainder}
+use Rattle.std.proofs.Common.{◌≡◌, ℕ, Bool, true, false, cond, List, [], ◌∷◌, map, Option, Some, None, option_map, refl, ap, sym, ◌∙◌, arith, eqb}
+use Rattle.cb_cond.specs.declared.symbol.Operator.TheVariants.{Add}
 use Rattle.cb_cond.specs.declared.symbol.Prefix.{Prefix}
-use Rattle.cb_cond.specs.declared.symbol.Prefix.TheVariants.{Not, Complement, Plus, Minus}
+use Rattle.cb_cond.specs.declared.symbol.Prefix.TheVariants.{Not}
 use Rattle.cb_cond.specs.declared.symbol.Symbol.{Symbol}
 use Rattle.cb_cond.specs.declared.symbol.Symbol.TheVariants.{Number, Between, Exclamation, Tilde, OpenParenthesis, CloseParenthesis, Question, Colon, WideInteger, Stray}
 use Rattle.cb_cond.specs.declared.meaning.Value.{Value}
 use Rattle.cb_cond.specs.declared.meaning.Value.TheVariants.{Bits, ZeroDivisor, Shift}
-use Rattle.cb_cond.specs.declared.meaning.Meaning.{Meaning}
 use Rattle.cb_cond.specs.declared.prefixes.Prefixes.{Prefixes}
 use Rattle.cb_cond.specs.declared.prefixes.Prefixes.TheVariants.{Linear, Test}
 use Rattle.cb_cond.specs.declared.frames.Frame.{Frame}
@@ -20,7 +18,7 @@ use Rattle.cb_cond.specs.Values.{meaning, unary, binary, choose, chosen_value, w
 use Rattle.cb_cond.specs.Prefixes.{extended, applied, linear}
 use Rattle.cb_cond.specs.Frames as frames
 use Rattle.cb_cond.specs.Frames.{Read, prefix_of, prefixed, opened}
-use Rattle.cb_cond.proofs.Reading.{Place, Left, Inside, Asked, Answered, Reading, Awaits, Has, Failed, unaries, ends, joined, Closed, collapse, awaiting, answered, closed, holding, step, run, whole, ended, outcome}
+use Rattle.cb_cond.proofs.Reading.{Place, Left, Inside, Asked, Answered, Reading, Awaits, Has, Failed, unaries, ends, joined, Closed, collapse, awaiting, answered, closed, holding, step, whole, ended}
 use Rattle.cb_cond.proofs.Runs.{FitsValue, FitsRun, FitsRun-extended, applied-bits}
 
 -- a run of prefix operators, of which the last stands first

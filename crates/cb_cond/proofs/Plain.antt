@@ -1,5 +1,5 @@
 -- Tokens that are no punctuators are no parentheses and no question marks.
-use Rattle.std.proofs.Common.{◌≡◌, ℕ, ◌-◌, Bool, true, false, cond, List, [], ◌∷◌, length, get_or, drop, slice_index, ◌==◌, ◌&&◌, not, sym, refl}
+use Rattle.std.proofs.Common.{◌≡◌, ℕ, Bool, true, false, cond, List, [], ◌∷◌, length, drop, slice_index, ◌==◌, ◌&&◌, not, sym, refl}
 use Rattle.std.specs.Str.{bytes_eq}
 use Rattle.cb_paths.specs.declared.language.Language.{Language}
 use Rattle.cb_paths.specs.declared.language.Language.TheVariants.{C, Cxx}
@@ -68,9 +68,25 @@ plain-looked_up text (r ∷ rs) s h k = plain-if (bytes_eq text r.text) r.symbol
 
 plain-words : Plains cxx_words
 unfolding Plains cxx_words
-plain-words =
-    (plain-between And, (plain-between Or, (plain-exclamation, (plain-between BitXor, (plain-between BitAnd, (plain-between BitOr,
-    (plain-tilde, (plain-between Unequal, (plain-number 1 false, tt)))))))))
+plain-words = (
+  plain-between And,
+  (
+    plain-between Or,
+    (
+      plain-exclamation,
+      (
+        plain-between BitXor,
+        (
+          plain-between BitAnd,
+          (
+            plain-between BitOr,
+            (plain-tilde, (plain-between Unequal, (plain-number 1 false, tt))),
+          ),
+        ),
+      ),
+    ),
+  ),
+)
 
 plain-identifier : (language : Language) (text : List ℕ) → Plain (identifier language text)
 unfolding identifier word
@@ -86,7 +102,7 @@ unfolding with_suffix
 plain-suffix base digits suffix =
     plain-if (are_digits base false digits) _ _
     (plain-if (is_among signed_suffixes suffix) _ _ (plain-amount (amount base digits) false)
-        (plain-if (is_among unsigned_suffixes suffix) _ _ (plain-amount (amount base digits) true) plain-stray))
+    (plain-if (is_among unsigned_suffixes suffix) _ _ (plain-amount (amount base digits) true) plain-stray))
     plain-stray
 
 plain-integer : (text : List ℕ) → Plain (integer text)
@@ -109,7 +125,7 @@ unfolding escape
 plain-escape bs =
     plain-if (is_octal_escape bs) _ _ (plain-small (amount 8 bs))
     (plain-if (is_hexadecimal_escape bs) _ _ (plain-small (amount 16 (drop 1 bs)))
-        (plain-if (length bs == 1) _ _ (plain-simple (slice_index bs 0)) plain-stray))
+    (plain-if (length bs == 1) _ _ (plain-simple (slice_index bs 0)) plain-stray))
 
 plain-quoted : (bs : List ℕ) → Plain (quoted bs)
 unfolding quoted

@@ -1,7 +1,7 @@
 -- Reading a condition from the left, over trees: a stack of places that wait for what follows.
-use Rattle.std.proofs.Common.{◌≡◌, ℕ, Bool, true, false, cond, List, [], ◌∷◌, ◌++◌, Option, Some, None, eqb, leb}
+use Rattle.std.proofs.Common.{ℕ, Bool, false, cond, List, [], ◌∷◌, Option, Some, None, eqb, leb}
 use Rattle.cb_cond.specs.declared.symbol.Operator.{Operator}
-use Rattle.cb_cond.specs.declared.symbol.Operator.TheVariants.{Or, And, BitOr, BitXor, BitAnd, Equal, Unequal, Less, Greater, AtMost, AtLeast, ShiftLeft, ShiftRight, Add, Subtract, Multiply, Divide, Remainder}
+use Rattle.cb_cond.specs.declared.symbol.Operator.TheVariants.{Add, Subtract}
 use Rattle.cb_cond.specs.declared.symbol.Prefix.{Prefix}
 use Rattle.cb_cond.specs.declared.symbol.Prefix.TheVariants.{Not, Complement, Plus, Minus}
 use Rattle.cb_cond.specs.declared.symbol.Symbol.{Symbol}

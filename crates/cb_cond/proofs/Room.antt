@@ -1,21 +1,16 @@
 -- How many places there can be at once.
-use Rattle.std.proofs.Common.{◌≡◌, ℕ, ◌+◌, ◌*◌, ◌<◌, ◌≤◌, Bool, true, false, cond, List, [], ◌∷◌, ◌++◌, length, take, map, Option, Some, None, count_by, append_assoc, append-nil, refl, ap, sym, ◌∙◌, subst, arith, eqb, leb}
-use Rattle.std.proofs.lemmas.List.Sums.{sum_by_push, sum_by-take-le}
-use Rattle.std.proofs.lemmas.List.{length-map}
+use Rattle.std.proofs.Common.{◌≡◌, ℕ, ◌+◌, ◌*◌, ◌<◌, ◌≤◌, Bool, true, false, cond, List, [], ◌∷◌, ◌++◌, length, count_by, append_assoc, append-nil, refl, arith, eqb, leb}
+use Rattle.std.proofs.lemmas.List.Sums.{sum_by_push}
 use Rattle.cb_cond.specs.declared.symbol.Operator.{Operator}
-use Rattle.cb_cond.specs.declared.symbol.Operator.TheVariants.{Or, And, BitOr, BitXor, BitAnd, Equal, Unequal, Less, Greater, AtMost, AtLeast, ShiftLeft, ShiftRight, Add, Subtract, Multiply, Divide, Remainder}
+use Rattle.cb_cond.specs.declared.symbol.Operator.TheVariants.{Add, Subtract}
 use Rattle.cb_cond.specs.declared.symbol.Prefix.{Prefix}
 use Rattle.cb_cond.specs.declared.symbol.Symbol.{Symbol}
-use Rattle.cb_cond.specs.declared.symbol.Symbol.TheVariants.{Number, Between, Exclamation, Tilde, OpenParenthesis, CloseParenthesis, Question, Colon, WideInteger, Stray}
-use Rattle.cb_cond.specs.declared.frames.Frame.{Frame}
-use Rattle.cb_cond.specs.declared.frames.Held.{Held}
-use Rattle.cb_cond.specs.Grammar.{Tree, Leaf, Parens, Unary, Binary, Choose, level}
-use Rattle.cb_cond.specs.Faults.{is_open, is_close, is_question, HasRoom}
-use Rattle.cb_cond.specs.Frames.{Read}
-use Rattle.cb_cond.proofs.Reading.{Place, Left, Inside, Asked, Answered, Reading, Awaits, Has, Failed, unaries, ends, joined, Closed, collapse, awaiting, answered, closed, holding, step, run}
+use Rattle.cb_cond.specs.declared.symbol.Symbol.TheVariants.{Number, Between, Exclamation, Tilde, OpenParenthesis, CloseParenthesis, Question, Colon}
+use Rattle.cb_cond.specs.Grammar.{Tree, level}
+use Rattle.cb_cond.specs.Faults.{is_open, is_close, is_question}
+use Rattle.cb_cond.proofs.Reading.{Place, Left, Inside, Asked, Answered, Reading, Awaits, Has, Failed, ends, joined, Closed, collapse, awaiting, answered, closed, holding, step, run}
 use Rattle.cb_cond.proofs.Complete.{Stays, level-above, level-below}
-use Rattle.cb_cond.proofs.Sound.{Sound, Good, good-run}
-use Rattle.cb_cond.proofs.Image.{image, frame_of}
+use Rattle.cb_cond.proofs.Sound.{Sound}
 
 -- the open parentheses
 unfoldable pub insides : List Place → ℕ

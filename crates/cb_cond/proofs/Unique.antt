@@ -1,16 +1,16 @@
 -- A list of symbols has one answer.
-use Rattle.std.proofs.Common.{◌≡◌, ◌==◌, ℕ, zero, suc, ◌+◌, ◌<◌, Bool, true, false, not, List, [], ◌∷◌, ◌++◌, length, get_or, Result, Ok, Err, refl, ap, sym, ◌∙◌, subst, arith}
+use Rattle.std.proofs.Common.{◌≡◌, ◌==◌, ℕ, zero, suc, ◌<◌, Bool, not, List, [], ◌∷◌, ◌++◌, length, get_or, Result, Ok, Err, refl, ap, sym, ◌∙◌, subst, arith}
 use Rattle.cb_cond.specs.declared.symbol.Prefix.{Prefix}
 use Rattle.cb_cond.specs.declared.symbol.Prefix.TheVariants.{Not, Complement, Plus, Minus}
 use Rattle.cb_cond.specs.declared.symbol.Symbol.{Symbol}
-use Rattle.cb_cond.specs.declared.symbol.Symbol.TheVariants.{Number, Between, Exclamation, Tilde, OpenParenthesis, CloseParenthesis, Question, Colon, WideInteger, Stray}
+use Rattle.cb_cond.specs.declared.symbol.Symbol.TheVariants.{Between, CloseParenthesis, Question, Colon, WideInteger}
 use Rattle.cb_cond.specs.declared.meaning.Value.{Value}
 use Rattle.cb_cond.specs.declared.meaning.Value.TheVariants as values
 use Rattle.cb_cond.specs.declared.bad_condition.BadCondition.{BadCondition}
 use Rattle.cb_cond.specs.declared.bad_condition.BadCondition.TheVariants as bad
 use Rattle.cb_cond.specs.Grammar.{Tree, Leaf, Parens, Unary, Binary, Choose, prefix_symbol, spelling, IsCondition}
 use Rattle.cb_cond.specs.Values.{meaning}
-use Rattle.cb_cond.specs.Faults.{IsTooDeep, IsTooWide, IsAnswer}
+use Rattle.cb_cond.specs.Faults.{IsTooWide, IsAnswer}
 use Rattle.cb_cond.proofs.Complete.{one_tree}
 use Rattle.cb_cond.proofs.Constants.{integer-is, integer-only}
 
@@ -39,7 +39,7 @@ IsNarrow-spelling (Unary p a) = (IsNarrow-prefix p, IsNarrow-spelling a)
 IsNarrow-spelling (Binary o a b) = IsNarrow-append (spelling a) (Between o ∷ spelling b) (IsNarrow-spelling a) (λ e. cc, IsNarrow-spelling b)
 IsNarrow-spelling (Choose a b c) =
     IsNarrow-append (spelling a) (Question ∷ (spelling b ++ Colon ∷ spelling c)) (IsNarrow-spelling a)
-        (λ e. cc, IsNarrow-append (spelling b) (Colon ∷ spelling c) (IsNarrow-spelling b) (λ e. cc, IsNarrow-spelling c))
+    (λ e. cc, IsNarrow-append (spelling b) (Colon ∷ spelling c) (IsNarrow-spelling b) (λ e. cc, IsNarrow-spelling c))
 
 narrow-at : (ss : List Symbol) (k : ℕ) → IsNarrow ss → k < length ss → get_or ss k WideInteger ≡ WideInteger → ⊥
 unfolding IsNarrow

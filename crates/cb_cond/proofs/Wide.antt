@@ -1,5 +1,5 @@
 -- Integers that are too wide.
-use Rattle.std.proofs.Common.{◌≡◌, ℕ, ◌<◌, ◌≤◌, List, length, get_or, map, ap, sym, ◌∙◌, arith}
+use Rattle.std.proofs.Common.{◌≡◌, ℕ, ◌<◌, ◌≤◌, List, length, get_or, ap, sym, ◌∙◌, arith}
 use Rattle.std.proofs.lemmas.List.{length-map, get_or-map}
 use Rattle.cb_paths.specs.declared.language.Language.{Language}
 use Rattle.cb_tokens.specs.declared.token.Token.{Token}

@@ -1,5 +1,5 @@
 -- Character constants of one byte (6.4.4.4).
-use Rattle.std.specs.Prelude.{ℕ, ◌==◌, ◌+◌, ◌-◌, ◌&&◌, ◌||◌, Bool, true, false, not, nat_lt, nat_le, if◌then◌else◌, List, [], ◌∷◌, length, take, drop, slice_index, slice_range}
+use Rattle.std.specs.Prelude.{ℕ, ◌==◌, ◌-◌, ◌&&◌, ◌||◌, Bool, false, not, nat_lt, nat_le, if◌then◌else◌, List, length, drop, slice_index, slice_range}
 use Rattle.std.specs.List.{list_all}
 use Rattle.cb_cond.specs.declared.symbol.Symbol.{Symbol}
 use Rattle.cb_cond.specs.declared.symbol.Symbol.TheVariants.{Number, Stray}
@@ -46,4 +46,4 @@ quoted bs =
 -- paragraph 4; own)
 unfoldable pub character : List ℕ → Symbol
 character text =
-    if nat_le 2 (length text) && (slice_index text 0 == 39) then quoted (slice_range text 1 (length text - 1)) else Stray
+    if nat_le 2 (length text) && (slice_index text 0 == 39) && (slice_index text (length text - 1) == 39) then quoted (slice_range text 1 (length text - 1)) else Stray

@@ -1,5 +1,5 @@
 -- What is wrong with a condition, and which fault decides (6.10.1; the limits and the order are own).
-use Rattle.std.specs.Prelude.{◌≡◌, ◌==◌, ℕ, ◌+◌, ◌*◌, ◌<◌, ◌≤◌, ◌⊎◌, Bool, true, false, not, List, [], ◌∷◌, take, Result, Ok, Err, Option, Some, None}
+use Rattle.std.specs.Prelude.{◌≡◌, ◌==◌, ℕ, ◌+◌, ◌*◌, ◌<◌, ◌≤◌, ◌⊎◌, Bool, true, false, not, List, take, Result, Ok, Err, Option, Some, None, codes}
 use Rattle.std.specs.List.{count_by, Contains}
 use Rattle.cb_cond.specs.declared.symbol.Symbol.{Symbol}
 use Rattle.cb_cond.specs.declared.symbol.Symbol.TheVariants.{OpenParenthesis, CloseParenthesis, Question, WideInteger}
@@ -56,3 +56,11 @@ HasRoom ss n =
 abbrev pub IsReadAs : List Symbol → Option Meaning → Type 0
 IsReadAs ss None = (tree : Tree) → ¬ (IsCondition ss tree)
 IsReadAs ss (Some m) = (tree : Tree) × IsCondition ss tree × (m ≡ meaning tree)
+
+-- the name of a fault (own)
+abbrev pub fault_name : BadCondition → List ℕ
+fault_name bad.Malformed = codes "Malformed"
+fault_name bad.ZeroDivisor = codes "ZeroDivisor"
+fault_name bad.Shift = codes "Shift"
+fault_name bad.TooWide = codes "TooWide"
+fault_name bad.TooDeep = codes "TooDeep"

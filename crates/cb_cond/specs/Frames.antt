@@ -1,6 +1,6 @@
 -- How the code reads a condition from the left: a list of frames, the innermost first (own; no public clause rests on it).
-use Rattle.std.specs.Prelude.{◌≡◌, ◌==◌, ℕ, ◌%◌, ◌^◌, nat_le, Bool, true, false, if◌then◌else◌, List, [], ◌∷◌, drop, Option, Some, None}
-use Rattle.cb_cond.specs.declared.symbol.Operator.TheVariants.{Or, And, BitOr, BitXor, BitAnd, Equal, Unequal, Less, Greater, AtMost, AtLeast, ShiftLeft, ShiftRight, Add, Subtract, Multiply, Divide, Remainder}
+use Rattle.std.specs.Prelude.{◌==◌, ℕ, ◌%◌, ◌^◌, nat_le, Bool, false, if◌then◌else◌, List, [], ◌∷◌, drop, Option, Some, None}
+use Rattle.cb_cond.specs.declared.symbol.Operator.TheVariants.{Add, Subtract}
 use Rattle.cb_cond.specs.declared.symbol.Prefix.{Prefix}
 use Rattle.cb_cond.specs.declared.symbol.Prefix.TheVariants.{Not, Complement, Plus, Minus}
 use Rattle.cb_cond.specs.declared.symbol.Symbol.{Symbol}

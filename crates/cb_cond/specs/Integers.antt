@@ -1,5 +1,5 @@
 -- Integer constants (6.4.4.1; binary ones and the ' are own, after C++14).
-use Rattle.std.specs.Prelude.{◌≡◌, ◌≢◌, ◌⊎◌, ◌++◌, ℕ, ◌==◌, ◌+◌, ◌-◌, ◌*◌, ◌^◌, ◌&&◌, ◌||◌, Bool, true, false, nat_lt, nat_le, if◌then◌else◌, List, [], ◌∷◌, length, take, drop, slice_index, codes}
+use Rattle.std.specs.Prelude.{◌≡◌, ◌≢◌, ◌⊎◌, ◌++◌, ℕ, ◌==◌, ◌+◌, ◌-◌, ◌*◌, ◌^◌, ◌&&◌, ◌||◌, Bool, true, false, nat_lt, nat_le, if◌then◌else◌, List, [], ◌∷◌, take, drop, slice_index, codes}
 use Rattle.std.specs.List.{fold, prefix_len, list_any}
 use Rattle.std.specs.Str.{bytes_eq}
 use Rattle.cb_cond.specs.declared.symbol.Symbol.{Symbol}

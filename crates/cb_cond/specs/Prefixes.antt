@@ -1,8 +1,7 @@
 -- A run of operators before an operand, as one function of 64 bits (own: how the code keeps it).
-use Rattle.std.specs.Prelude.{ℕ, ◌==◌, ◌+◌, ◌-◌, ◌%◌, ◌^◌, Bool, true, false, not, if◌then◌else◌}
+use Rattle.std.specs.Prelude.{ℕ, ◌==◌, ◌+◌, ◌-◌, ◌%◌, ◌^◌, Bool, false, not, if◌then◌else◌}
 use Rattle.cb_cond.specs.declared.symbol.Prefix.{Prefix}
 use Rattle.cb_cond.specs.declared.symbol.Prefix.TheVariants.{Not, Complement, Plus, Minus}
-use Rattle.cb_cond.specs.declared.meaning.Value.{Value}
 use Rattle.cb_cond.specs.declared.meaning.Value.TheVariants.{Bits}
 use Rattle.cb_cond.specs.declared.meaning.Meaning.{Meaning}
 use Rattle.cb_cond.specs.declared.prefixes.Prefixes.{Prefixes}

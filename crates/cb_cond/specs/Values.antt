@@ -1,5 +1,5 @@
 -- The types and values of trees (6.10.1, paragraph 4: every integer has the width of intmax_t, here 64 bits).
-use Rattle.std.specs.Prelude.{◌≡◌, ◌==◌, ℕ, ◌+◌, ◌-◌, ◌*◌, ◌/◌, ◌%◌, ◌^◌, ◌||◌, Bool, true, false, not, nat_lt, nat_le, if◌then◌else◌, ℤ, int_lt, int_le, int_div, int_rem, bit_and, bit_or, bit_xor}
+use Rattle.std.specs.Prelude.{◌==◌, ℕ, ◌+◌, ◌-◌, ◌*◌, ◌/◌, ◌%◌, ◌^◌, ◌||◌, Bool, false, not, nat_lt, if◌then◌else◌, ℤ, int_lt, int_div, int_rem, bit_and, bit_or, bit_xor}
 use Rattle.std.specs.Int.{cast_signed, cast_unsigned, int_shr}
 use mir.Syntax.{w64}
 use Rattle.cb_cond.specs.declared.symbol.Operator.{Operator}

@@ -1,4 +1,5 @@
 //! What is wrong with a condition.
+ghost use Rattle.std.specs.Prelude.{◌≡◌};
 
 /// Why a condition has no value. Where several reasons hold, a later one of this list stands before an earlier one, but
 /// for `ZeroDivisor` and `Shift`, of which evaluation from the left meets one first.
@@ -14,4 +15,21 @@ pub enum BadCondition {
     TooWide = 4,
     /// More than 256 parentheses are open at once, or there are more than 256 question marks.
     TooDeep = 5,
+}
+
+impl BadCondition {
+    ghost use Rattle.cb_cond.specs.Faults.{fault_name};
+
+    /// The name of the fault.
+    pub fn name(&self) -> &'static str
+        ensures { result.now ≡ fault_name self.now }
+    {
+        match self {
+            BadCondition::Malformed => "Malformed",
+            BadCondition::ZeroDivisor => "ZeroDivisor",
+            BadCondition::Shift => "Shift",
+            BadCondition::TooWide => "TooWide",
+            BadCondition::TooDeep => "TooDeep",
+        }
+    }
 }

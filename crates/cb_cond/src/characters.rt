@@ -96,7 +96,7 @@ fn between_quotes(bytes: &[u8]) -> Symbol
 pub(crate) fn character_symbol(text: &[u8]) -> Symbol
     ensures { result ≡ character text.now }
 {
-    if text.len() < 2 || text[0] != b'\'' {
+    if text.len() < 2 || text[0] != b'\'' || text[text.len() - 1] != b'\'' {
         return Symbol::Stray;
     }
     between_quotes(&text[1..text.len() - 1])

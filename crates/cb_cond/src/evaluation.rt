@@ -32,7 +32,7 @@ fn meaning_in(language: Language, tokens: &[Token], frames: &mut [Frame]) -> Opt
 }
 
 /// The frames that are enough for most conditions.
-const FEW_FRAMES: usize = 64;
+const FEW_FRAMES: usize = 128;
 
 /// The frames that are enough for each condition that is not too deep.
 const ALL_FRAMES: usize = 3083;

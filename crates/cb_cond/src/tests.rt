@@ -401,6 +401,7 @@ fn faults_are_told(rt: HostRuntime) -> Result<(), Fail> {
     each_answers(&rt, &SHIFT, Language::C, Err(BadCondition::Shift))?;
     each_answers(&rt, &TOO_WIDE, Language::C, Err(BadCondition::TooWide))?;
     assert!(rt; value(&[], Language::C) == Err(BadCondition::Malformed));
+    assert!(rt; BadCondition::TooDeep.name() == "TooDeep");
     Ok(())
 }
 

@@ -1,5 +1,4 @@
-use Rattle.std.proofs.Common.{◌≡◌, ◌+◌, ◌<◌, ◌≤◌, length, drop, arith, length-drop}
-use Rattle.cb_cond.specs.declared.frames.Frame.{Frame}
+use Rattle.std.proofs.Common.{◌+◌, length, arith, length-drop}
 use Rattle.cb_cond.specs.Symbols.{symbols}
 use Rattle.cb_cond.specs.Frames.{read_of}
 use Rattle.cb_cond.proofs.Along.{start-image, step-read, failed-at, read-end, room}

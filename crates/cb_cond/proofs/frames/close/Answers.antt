@@ -1,4 +1,4 @@
-use Rattle.std.proofs.Common.{◌≡◌, ◌+◌, ◌≤◌, length, drop, ap, sym, ◌∙◌, arith}
+use Rattle.std.proofs.Common.{◌+◌, drop, ap, sym, ◌∙◌, arith}
 use Rattle.cb_cond.specs.Frames.{closed}
 use Rattle.cb_cond.proofs.Closing.{closed-next, closed-stops, closed-end}
 use Rattle.cb_cond.proofs.frames.close.Goals as goal

@@ -1,4 +1,4 @@
-use Rattle.std.proofs.Common.{◌≡◌, ◌≤◌, ◌<◌, ◌+◌, ◌^◌, length, get_or, take, ap, sym, ◌∙◌, arith}
+use Rattle.std.proofs.Common.{◌≡◌, ◌≤◌, ◌+◌, ◌^◌, get_or, take, ap, sym, ◌∙◌, arith}
 use Rattle.cb_cond.specs.Integers.{next_amount, amount}
 use Rattle.cb_cond.proofs.Digits.{amount-next, amount-within}
 use Rattle.cb_cond.proofs.integers.amount_of.Goals as goal
