@@ -1,0 +1,4 @@
+pub mod NamesHeld
+pub mod Numbers
+pub mod PassSteps
+pub mod Stack

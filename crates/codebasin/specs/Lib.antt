@@ -1,0 +1,3 @@
+pub mod NameSet
+pub mod Sections
+pub mod Pass

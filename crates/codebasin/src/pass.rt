@@ -1,0 +1,140 @@
+//! A pass over one source: from node to node, with the open sections and the defined names.
+ghost use Rattle.std.specs.Prelude.{◌≡◌, ◌≤◌, ◌-◌, [], length, OnOk, Option, List, ℕ, drop, IfOk, Some, None, map, string_bytes};
+ghost use Rattle.std.specs.Option.{option_copied, option_map};
+ghost use Rattle.std.specs.FinSet as set;
+ghost use Rattle.cb_lines.specs.Lines.{with_line};
+ghost use Rattle.codebasin.specs.Pass.{State, first_name, macro_name, is_defined, is_undefined, condition, is_reached, state_behind, may_be_macro};
+
+use crate::names::Names;
+use crate::section::Sections;
+use cb_lines::Lines;
+use cb_paths::NoMemory;
+use cb_tokens::{Token, TokenKind};
+use cb_tree::{NodeKind, Tree};
+use std::alloc::Global;
+use std::marker::Model;
+
+/// What a pass knows at a place of its source, which contracts see as the state of the machine.
+#[derive(Drop)]
+pub(crate) struct Pass<'a> {
+    sections: Sections,
+    names: Names<'a>,
+}
+
+impl<'a> Model for Pass<'a> {
+    ghost use Rattle.codebasin.specs.Pass.{State, state_code};
+    ghost Value = { State };
+    ghost coded = { state_code };
+
+    ghost view = { λ p. record { sections = p.sections; names = p.names } };
+}
+
+/// The identifier that stands first.
+fn first_name(tokens: &[Token]) -> Option<&[u8]>
+    ensures { option_copied result ≡ first_name tokens.now }
+{
+    let first = tokens.first()?;
+    match first.kind {
+        TokenKind::Identifier => Some(first.text.as_slice()),
+        _ => None,
+    }
+}
+
+/// Whether the name may be that of a macro.
+pub(crate) fn may_be_macro(name: &[u8]) -> bool
+    ensures { result ≡ may_be_macro name.now }
+{
+    name != b"defined".as_slice() && name != b"__VA_ARGS__".as_slice()
+}
+
+/// The name of a macro that stands first.
+fn macro_name(tokens: &[Token]) -> Option<&[u8]>
+    ensures { option_copied result ≡ macro_name (first_name tokens.now) }
+{
+    let name = first_name(tokens)?;
+    if may_be_macro(name) { Some(name) } else { None }
+}
+
+impl<'a> Pass<'a> {
+    /// A pass with these names, at the start of its source.
+    pub(crate) fn new(alloc: Global, names: Names<'a>) -> Pass<'a>
+        ensures { result ≡ record { sections = []; names = names.entry } }
+    {
+        Pass {
+            sections: Sections::new(alloc),
+            names,
+        }
+    }
+
+    /// Whether a node of the kind is reached here.
+    pub(crate) fn reaches(&self, kind: NodeKind) -> bool
+        ensures { result ≡ is_reached kind self.now.sections }
+    {
+        match kind {
+            NodeKind::Elif | NodeKind::Else | NodeKind::Endif => self.sections.is_before_live(),
+            _ => self.sections.is_live(),
+        }
+    }
+
+    /// The condition of a directive of the kind.
+    fn condition(&self, kind: NodeKind, rest: &[Token]) -> bool
+        ensures { result ≡ condition kind rest.now self.now.names }
+    {
+        match kind {
+            NodeKind::Ifdef => match first_name(rest) {
+                Some(name) => self.names.has(name),
+                None => false,
+            },
+            NodeKind::Ifndef => match first_name(rest) {
+                Some(name) => !self.names.has(name),
+                None => false,
+            },
+            _ => false,
+        }
+    }
+
+    /// Goes past a node. After want of memory no more is said of the pass.
+    pub(crate) fn go_past(&mut self, kind: NodeKind, rest: &'a [Token]) -> Result<(), NoMemory>
+        ensures { OnOk result (self.new ≡ state_behind kind rest.now self.old) }
+    {
+        match kind {
+            NodeKind::If | NodeKind::Ifdef | NodeKind::Ifndef => {
+                let condition = self.condition(kind, rest);
+                self.sections.enter(condition)?;
+            }
+            NodeKind::Elif => {
+                let condition = self.condition(kind, rest);
+                self.sections.go_on(condition);
+            }
+            NodeKind::Else => self.sections.turn(),
+            NodeKind::Endif => self.sections.close(),
+            NodeKind::Define => self.define(rest)?,
+            NodeKind::Undef => self.undefine(rest),
+            _ => {}
+        }
+        Ok(())
+    }
+
+    /// Takes up the definition of a macro, where it stands in live text.
+    fn define(&mut self, rest: &'a [Token]) -> Result<(), NoMemory>
+        ensures { OnOk result (self.new ≡ state_behind NodeKind.Define rest.now self.old) }
+    {
+        if self.sections.is_live() {
+            if let Some(name) = macro_name(rest) {
+                self.names.insert(name)?;
+            }
+        }
+        Ok(())
+    }
+
+    /// Forgets a macro, where that stands in live text.
+    fn undefine(&mut self, rest: &[Token])
+        ensures { self.new ≡ state_behind NodeKind.Undef rest.now self.old }
+    {
+        if self.sections.is_live() {
+            if let Some(name) = macro_name(rest) {
+                self.names.remove(name);
+            }
+        }
+    }
+}

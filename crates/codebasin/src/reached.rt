@@ -1,0 +1,80 @@
+//! The counted lines that a pass reaches.
+ghost use Rattle.std.specs.Prelude.{◌≡◌, ◌≤◌, ◌-◌, [], length, slice_get, Some, OnOk, IfOk, if◌then◌else◌};
+ghost use Rattle.std.specs.List.{flat_map};
+ghost use Rattle.cb_lines.specs.Lines.{span_lines};
+ghost use Rattle.codebasin.specs.Pass.{reached_nodes, with_numbers, is_reached, state_behind};
+ghost use Rattle.cb_tree.specs.Nodes.{Node, node_rest};
+
+use crate::names::Names;
+use crate::pass::Pass;
+use cb_lines::{Lines, Span};
+use cb_paths::NoMemory;
+use cb_tree::Tree;
+use std::alloc::Global;
+
+/// Adds the lines of a span to a set.
+#[tactic(auto, using(crate::proofs::Numbers::with_numbers_range))]
+fn add_span(set: &mut Lines, span: Span) -> Result<(), NoMemory>
+    ensures { OnOk result (set.new ≡ with_numbers (span_lines span) set.old) }
+{
+    for line in u64::from(span.first)..u64::from(span.last) + 1 {
+        set.add(line as u32)?;
+    }
+    Ok(())
+}
+
+/// Adds the lines of one set to another.
+#[tactic(auto, using(crate::proofs::Numbers::with_numbers_append))]
+fn add_all(set: &mut Lines, lines: &Lines) -> Result<(), NoMemory>
+    ensures { OnOk result (set.new ≡ with_numbers lines.now set.old) }
+{
+    for span in lines.spans() {
+        add_span(set, *span)?;
+    }
+    Ok(())
+}
+
+/// Adds the lines of one set to another where a node is reached.
+fn add_where(set: &mut Lines, reached: bool, lines: &Lines) -> Result<(), NoMemory>
+    ensures { OnOk result (set.new ≡ with_numbers (if reached then lines.now else []) set.old) }
+{
+    if reached {
+        return add_all(set, lines);
+    }
+    Ok(())
+}
+
+/// Goes past a node, whose counted lines go into the set where it is reached.
+fn visit<'a>(
+    pass: &mut Pass<'a>,
+    set: &mut Lines,
+    tree: &'a Tree,
+    node: u32,
+) -> Result<(), NoMemory>
+    requires { (1 ≤ node) × (node ≤ length tree.now) }
+    ensures state { OnOk result ((n : Node) → slice_get tree.now (node - 1) ≡ Some n
+        → pass.new ≡ state_behind n.kind (node_rest n) pass.old) }
+    ensures lines { OnOk result ((n : Node) → slice_get tree.now (node - 1) ≡ Some n
+        → set.new ≡ with_numbers (if is_reached n.kind pass.old.sections then n.counted else []) set.old) }
+{
+    let kind = tree.kind(node);
+    add_where(set, pass.reaches(kind), tree.counted(node))?;
+    pass.go_past(kind, tree.rest(node))
+}
+
+/// The set of the counted lines of the nodes that a pass over a tree reaches, where these names are defined at its start.
+pub(crate) fn reached_lines<'a>(
+    alloc: Global,
+    tree: &'a Tree,
+    names: Names<'a>,
+) -> Result<Lines, NoMemory>
+    ensures { IfOk result (λ lines. lines ≡ with_numbers
+        (flat_map (λ n. n.counted) (reached_nodes tree.now (record { sections = []; names = names.entry }))) []) }
+{
+    let mut lines = Lines::new(alloc);
+    let mut pass = Pass::new(alloc, names);
+    for index in 0..tree.len() {
+        visit(&mut pass, &mut lines, tree, index + 1)?;
+    }
+    Ok(lines)
+}
