@@ -1,0 +1,13 @@
+use Rattle.std.proofs.Common.{◌+◌, ◌-◌, ◌++◌, ap, ◌∙◌}
+use Rattle.std.specs.List.{range_with_len}
+use Rattle.codebasin.specs.Texts.{numbers_text}
+use Rattle.codebasin.proofs.NumberTexts.{numbers_text_more}
+use Rattle.codebasin.proofs.texts.push_span.Goals as goal
+
+pub loop-line-preserved : goal.loop-line-preserved
+loop-line-preserved c =
+    let line = c.loop-line.line in
+    let end = c.from-line-end.result + 1 in
+    ap (λ text. text ++ numbers_text (range_with_len (line + 1) (end - (line + 1)))) c.in_ok-push_line.ensures
+    ∙ numbers_text_more c.loop-line.text.items line end c.loop-line-test.true
+    ∙ c.loop-line.invariant
