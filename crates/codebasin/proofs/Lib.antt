@@ -1,3 +1,4 @@
+pub mod AnswerParts
 pub mod CommandWords
 pub mod NamesHeld
 pub mod NotYetSteps
@@ -5,3 +6,4 @@ pub mod Numbers
 pub mod NumberTexts
 pub mod PassSteps
 pub mod Stack
+pub mod Statuses

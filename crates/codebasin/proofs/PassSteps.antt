@@ -33,4 +33,4 @@ with_reached_more ns i state state' set set' h state_is set_is =
     ap (λ s. with_reached (drop (i + 1) ns) s set') (state_is n at)
     ∙ ap (with_reached (drop (i + 1) ns) (state_behind n.kind (node_rest n) state)) (set_is n at)
     ∙ sym (at_drop_more (λ ys. with_reached ys state set) ns i none h
-      ∙ with_one (is_reached n.kind state.sections) n (reached_nodes (drop (i + 1) ns) (state_behind n.kind (node_rest n) state)) set)
+    ∙ with_one (is_reached n.kind state.sections) n (reached_nodes (drop (i + 1) ns) (state_behind n.kind (node_rest n) state)) set)

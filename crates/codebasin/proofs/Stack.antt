@@ -1,5 +1,5 @@
 -- A stack in a vector, whose last item is the first of the list that it stands for.
-use Rattle.std.proofs.Common.{◌≡◌, ℕ, ◌+◌, ◌≤◌, ◌<◌, Bool, List, [], ◌∷◌, ◌++◌, length, take, get_or, sym, ap, ◌∙◌, arith, length-set}
+use Rattle.std.proofs.Common.{◌≡◌, ℕ, Bool, List, [], ◌∷◌, ◌++◌, length, take, get_or, sym, ap, ◌∙◌, arith, length-set}
 use Rattle.std.specs.Prelude.{reverse}
 use Prim.Native.Nat.{suc}
 use Rattle.std.proofs.Math.ListN.{set}

@@ -10,12 +10,12 @@ use Rattle.codebasin.specs.Answers.{Answers}
 pub data Says (words : List (List ℕ)) (old new : Option (List ℕ)) : ℕ → List ℕ → Type 0 where
   refused : job_of words ≡ None → Keeps old new → Says words old new 1 usage_text
   answered : (names : List (List ℕ)) (source : List ℕ) (status : ℕ) (text : List ℕ)
-    → job_of words ≡ Some names
-    → Consumes old new source
-    → length source ≤ 4194305
-    → (length source ≤ 4194304 → IsAtEnd new)
-    → Answers names source status text
-    → Says words old new status text
+      → job_of words ≡ Some names
+      → Consumes old new source
+      → length source ≤ 4194305
+      → (length source ≤ 4194304 → IsAtEnd new)
+      → Answers names source status text
+      → Says words old new status text
   unread : (names : List (List ℕ)) → job_of words ≡ Some names → Says words old new 4 read_text
 
 -- How a run ends: its text was written, or a write failed after a part of it, or memory was wanted and nothing was written (own).

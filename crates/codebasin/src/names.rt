@@ -15,7 +15,9 @@ pub(crate) struct Names<'a> {
 
 impl<'a> Model for Names<'a> {
     ghost use Rattle.codebasin.specs.NameSet.{NameSet, name_set_code, names_held};
+
     ghost Value = { NameSet };
+
     ghost coded = { name_set_code };
 
     ghost view = { λ n. names_held n.held.keys };

@@ -23,7 +23,9 @@ pub(crate) struct Pass<'a> {
 
 impl<'a> Model for Pass<'a> {
     ghost use Rattle.codebasin.specs.Pass.{State, state_code};
+
     ghost Value = { State };
+
     ghost coded = { state_code };
 
     ghost view = { λ p. record { sections = p.sections; names = p.names } };

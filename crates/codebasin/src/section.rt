@@ -26,6 +26,7 @@ pub(crate) struct Sections {
 impl Model for Sections {
     ghost use Rattle.std.specs.Prelude.{List, reverse};
     ghost use Rattle.codebasin.specs.declared.section.Section.{Section};
+
     ghost Value = { List Section };
 
     ghost view = { λ s. reverse s.stack.items };

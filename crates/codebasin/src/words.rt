@@ -6,7 +6,7 @@ ghost use Rattle.cb_tokens.specs.Forms.{is_identifier, is_name_start, is_name_by
 ghost use Rattle.codebasin.specs.Words.{definable, joined_name, before, names_in, job_of};
 
 use crate::pass::may_be_macro;
-use cb_paths::NoMemory;
+use cb_paths::{Bytes, NoMemory};
 use std::alloc::Global;
 
 /// The bytes themselves where they are a name that may be defined.
@@ -47,9 +47,9 @@ fn first_name<'a>(words: &'a [String]) -> Option<(&'a [u8], &'a [String])>
 }
 
 /// The names of the words `-D NAME`, in one word or in two, or nothing where a word is no part of such.
-#[tactic(auto, using(crate::proofs::CommandWords::found_more))]
-fn names_in<'a>(alloc: Global, words: &'a [String]) -> Result<Option<Vec<&'a [u8]>>, NoMemory>
-    ensures { IfOk result (λ names. option_map (λ found. map (λ n. n.now) found.items) names ≡ names_in (map string_bytes words.now)) }
+#[tactic(auto, using(crate::proofs::CommandWords::found_push))]
+fn names_in(alloc: Global, words: &[String]) -> Result<Option<Vec<Bytes>>, NoMemory>
+    ensures { IfOk result (λ names. option_map (λ found. found.items) names ≡ names_in (map string_bytes words.now)) }
 {
     let mut names = Vec::new(alloc);
     let mut rest = words;
@@ -57,18 +57,15 @@ fn names_in<'a>(alloc: Global, words: &'a [String]) -> Result<Option<Vec<&'a [u8
         let Some((name, behind)) = first_name(rest) else {
             return Ok(None);
         };
-        names.push(name)?;
+        names.push(Bytes::from_slice(alloc, name)?)?;
         rest = behind;
     }
     Ok(Some(names))
 }
 
 /// What the words ask for: a pass with these names, or nothing where they are no such words.
-pub(crate) fn job_of<'a>(
-    alloc: Global,
-    words: &'a [String],
-) -> Result<Option<Vec<&'a [u8]>>, NoMemory>
-    ensures { IfOk result (λ names. option_map (λ found. map (λ n. n.now) found.items) names ≡ job_of (map string_bytes words.now)) }
+pub(crate) fn job_of(alloc: Global, words: &[String]) -> Result<Option<Vec<Bytes>>, NoMemory>
+    ensures { IfOk result (λ names. option_map (λ found. found.items) names ≡ job_of (map string_bytes words.now)) }
 {
     let Some((first, rest)) = words.split_first() else {
         return Ok(None);

@@ -1,4 +1,4 @@
-use Rattle.std.proofs.Common.{◌<◌, length, Bool, true, false, sym, ap, ◌∙◌, arith}
+use Rattle.std.proofs.Common.{◌<◌, length, true, false, sym, ap, ◌∙◌, arith}
 use Rattle.std.specs.Option.{option_map}
 use Rattle.cb_tree.specs.Nodes.{node_line}
 use Rattle.codebasin.proofs.NotYetSteps.{first_unready-at}

@@ -1,4 +1,4 @@
-use Rattle.std.proofs.Common.{◌≡◌, ◌+◌, ◌-◌}
+use Rattle.std.proofs.Common.{◌≡◌, ◌-◌}
 use Rattle.std.specs.List.{range_with_len}
 use Rattle.cb_lines.specs.Lines.{span_lines}
 use Rattle.codebasin.specs.Pass.{with_numbers}

@@ -6,7 +6,7 @@ use Rattle.codebasin.proofs.words.names_in.Given as goal
 -- the names so far, and those in the words that are left
 abbrev pub invariant-names : goal.invariant-names
 invariant-names l =
-    found_before (map (λ n. n.now) l.names.items) (names_in (map string_bytes l.rest)) ≡ names_in (map string_bytes l.words)
+    found_before l.names.items (names_in (map string_bytes l.rest)) ≡ names_in (map string_bytes l.words)
 
 abbrev pub decreases-names : goal.decreases-names
 decreases-names l = length l.rest

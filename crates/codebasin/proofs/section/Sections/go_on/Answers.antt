@@ -1,4 +1,4 @@
-use Rattle.std.proofs.Common.{◌≡◌, ap, sym, ◌∙◌, length, arith}
+use Rattle.std.proofs.Common.{◌≡◌, ap, ◌∙◌, length, arith}
 use Rattle.std.specs.Prelude.{reverse}
 use Prim.Native.Nat.{suc}
 use Rattle.std.proofs.Math.ListN.{set}

@@ -1,0 +1,73 @@
+//! From a source to what is said of it.
+ghost use Rattle.std.specs.Prelude.{◌≡◌, IfOk};
+ghost use Rattle.codebasin.specs.Answers.{Answers, SaysOfNodes};
+
+use crate::early::first_unready;
+use crate::reached::reached_lines;
+use crate::starting::start_names;
+use crate::texts::{TOO_LONG, fault_text, not_yet_text, numbers_text};
+use cb_paths::{Bytes, NoMemory, SOURCE_BYTE_LIMIT};
+use cb_tree::{BuildFault, Tree, build};
+use std::alloc::Global;
+
+/// What a run says: the text that it writes, and the status that it then ends with.
+#[derive(Drop)]
+pub(crate) struct Answer {
+    /// The status of a run whose text is written.
+    pub(crate) status: u8,
+    /// All that is written.
+    pub(crate) text: Vec<u8>,
+}
+
+impl Answer {
+    /// The answer of a fixed text.
+    pub(crate) fn fixed(alloc: Global, status: u8, text: &[u8]) -> Result<Answer, NoMemory>
+        ensures status { IfOk result (λ answer. answer.status ≡ status) }
+        ensures text { IfOk result (λ answer. answer.text.items ≡ text.now) }
+    {
+        let text = Vec::from_slice(alloc, text)?;
+        Ok(Answer { status, text })
+    }
+}
+
+/// What a pass goes over, and the names that are defined before it.
+#[derive(Drop)]
+struct Subject {
+    names: Vec<Bytes>,
+    tree: Tree,
+}
+
+/// What is said of a sound source.
+fn answer_tree(alloc: Global, subject: &Subject) -> Result<Answer, NoMemory>
+    ensures { IfOk result (λ answer. SaysOfNodes subject.now.names.items subject.now.tree answer.status answer.text.items) }
+{
+    if let Some(line) = first_unready(&subject.tree) {
+        let text = not_yet_text(alloc, line)?;
+        return Ok(Answer { status: 2, text });
+    }
+    let names = start_names(alloc, subject.names.as_slice())?;
+    let lines = reached_lines(alloc, &subject.tree, names)?;
+    let text = numbers_text(alloc, &lines)?;
+    Ok(Answer { status: 0, text })
+}
+
+/// What is said of a source, where these names are defined before it.
+pub(crate) fn answer_source(
+    alloc: Global,
+    names: Vec<Bytes>,
+    source: &[u8],
+) -> Result<Answer, NoMemory>
+    ensures { IfOk result (λ answer. Answers names.items source.now answer.status answer.text.items) }
+{
+    if source.len() > SOURCE_BYTE_LIMIT {
+        return Answer::fixed(alloc, 3, TOO_LONG);
+    }
+    match build(alloc, source) {
+        Ok(tree) => answer_tree(alloc, &Subject { names, tree }),
+        Err(BuildFault::Bad(fault)) => {
+            let text = fault_text(alloc, fault)?;
+            Ok(Answer { status: 2, text })
+        }
+        Err(BuildFault::NoMemory) => Err(NoMemory),
+    }
+}

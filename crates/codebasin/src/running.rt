@@ -1,0 +1,54 @@
+//! One run of the program, from its words and its input to its output and its status.
+ghost use Rattle.std.specs.Prelude.{◌≡◌, map, string_bytes, IfOk, OnOk};
+ghost use Rattle.cb_outside.specs.Outside.{Rose};
+ghost use Rattle.codebasin.specs.Run.{Says, Ends};
+
+use crate::answering::{Answer, answer_source};
+use crate::texts::{UNREAD, USAGE};
+use crate::words::job_of;
+use cb_outside::{ReadError, Sink, Source, put_all, take_up_to};
+use cb_paths::{NoMemory, SOURCE_BYTE_LIMIT};
+use std::alloc::Global;
+
+/// The status where a write failed.
+const UNWRITTEN: u8 = 5;
+
+/// The status where memory was wanted.
+pub(crate) const OUT_OF_MEMORY: u8 = 6;
+
+/// What a run with these words says of its input.
+fn reply<R: Source>(alloc: Global, words: &[String], input: &mut R) -> Result<Answer, NoMemory>
+    ensures says { IfOk result (λ answer. Says (map string_bytes words.now) (R.left input.old) (R.left input.new) answer.status answer.text.items) }
+    ensures read_failed { IfOk result (λ answer. answer.status ≡ 4 → Rose (R.faults input.old) (R.faults input.new)) }
+    ensures refused { IfOk result (λ answer. answer.status ≡ 1 → input.new ≡ input.old) }
+{
+    let Some(names) = job_of(alloc, words)? else {
+        return Answer::fixed(alloc, 1, USAGE);
+    };
+    match take_up_to(alloc, input, SOURCE_BYTE_LIMIT + 1) {
+        Ok(source) => answer_source(alloc, names, source.as_slice()),
+        Err(ReadError::Failed) => Answer::fixed(alloc, 4, UNREAD),
+        Err(ReadError::NoMemory) => Err(NoMemory),
+    }
+}
+
+/// Runs the program: reads its input, writes to `out`, and answers the status that the process is to end with.
+pub fn run<T: AllocGlobal, R: Source, W: Sink>(
+    rt: &T,
+    words: &[String],
+    input: &mut R,
+    out: &mut W,
+) -> u8
+    ensures ends { Ends (map string_bytes words.now) (R.left input.old) (R.left input.new) (W.taken out.old) (W.taken out.new) result }
+    ensures read_failed { result ≡ 4 → Rose (R.faults input.old) (R.faults input.new) }
+    ensures write_failed { result ≡ 5 → Rose (W.faults out.old) (W.faults out.new) }
+    ensures refused { result ≡ 1 → input.new ≡ input.old }
+{
+    match reply(rt.alloc(), words, input) {
+        Ok(answer) => match put_all(out, answer.text.as_slice()) {
+            Ok(()) => answer.status,
+            Err(_) => UNWRITTEN,
+        },
+        Err(NoMemory) => OUT_OF_MEMORY,
+    }
+}
