@@ -9,6 +9,8 @@ mod reached;
 mod running;
 mod section;
 mod starting;
+#[cfg(test)]
+mod tests;
 mod texts;
 mod words;
 
