@@ -1,5 +1,6 @@
 pub mod NameSet
 pub mod Sections
+pub mod Defined
 pub mod Pass
 pub mod NotYet
 pub mod Words

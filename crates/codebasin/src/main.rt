@@ -2,6 +2,7 @@
 #![tactic(auto)]
 
 mod answering;
+mod defined;
 mod early;
 mod names;
 mod pass;
