@@ -7,7 +7,7 @@ use Rattle.codebasin.specs.Run.{Says, refused, answered, unread}
 
 node_status : (names : List (List ℕ)) (nodes : List Node) (status : ℕ) (text : List ℕ) → SaysOfNodes names nodes status text → status ≤ 3
 node_status names nodes status text (not_yet line e) = lit≤ tt
-node_status names nodes status text (done e) = lit≤ tt
+node_status names nodes status text (done reached e r) = lit≤ tt
 
 -- an answer to a source has a status of at most 3
 pub answer_status : (names : List (List ℕ)) (source : List ℕ) (status : ℕ) (text : List ℕ) → Answers names source status text → status ≤ 3
@@ -28,7 +28,7 @@ keeps_itself (Some bytes) = refl
 
 node_status_not_one : (names : List (List ℕ)) (nodes : List Node) (status : ℕ) (text : List ℕ) → SaysOfNodes names nodes status text → status ≡ 1 → ⊥
 node_status_not_one names nodes status text (not_yet line e) one = omega arith
-node_status_not_one names nodes status text (done e) one = omega arith
+node_status_not_one names nodes status text (done reached e r) one = omega arith
 
 -- an answer to a source is not that to words that are no command
 pub answer_status_not_one : (names : List (List ℕ)) (source : List ℕ) (status : ℕ) (text : List ℕ) → Answers names source status text → status ≡ 1 → ⊥

@@ -3,7 +3,7 @@ use Rattle.std.specs.Prelude.{◌≡◌, ℕ, ◌<◌, ◌≤◌, List, length, 
 use Rattle.cb_tree.specs.declared.fault.BadSource.{BadSource}
 use Rattle.cb_tree.specs.Nodes.{Node}
 use Rattle.cb_tree.specs.Sound.{IsRead, Sound, Unsound}
-use Rattle.codebasin.specs.Pass.{reached_lines}
+use Rattle.codebasin.specs.Pass.{start, Reaches, lines_of_nodes}
 use Rattle.codebasin.specs.NotYet.{first_unready}
 use Rattle.codebasin.specs.Texts.{limit_text, fault_text, not_yet_text, numbers_text}
 
@@ -11,7 +11,7 @@ use Rattle.codebasin.specs.Texts.{limit_text, fault_text, not_yet_text, numbers_
 -- the numbers of the reached counted lines (own).
 pub data SaysOfNodes (names : List (List ℕ)) (nodes : List Node) : ℕ → List ℕ → Type 0 where
   not_yet : (line : ℕ) → first_unready nodes ≡ Some line → SaysOfNodes names nodes 2 (not_yet_text line)
-  done : first_unready nodes ≡ None → SaysOfNodes names nodes 0 (numbers_text (reached_lines names nodes))
+  done : (reached : List Node) → first_unready nodes ≡ None → Reaches nodes (start names) reached → SaysOfNodes names nodes 0 (numbers_text (lines_of_nodes reached))
 
 -- The status and the text for a source, and for the names that are defined before it: its size decides first, then its
 -- first fault, then its nodes (own).

@@ -1,5 +1,5 @@
 -- A pass over one source: a flat machine that goes from node to node (6.10).
-use Rattle.std.specs.Prelude.{ℕ, Bool, false, not, ◌&&◌, if◌then◌else◌, List, [], ◌∷◌, ◌++◌, codes, Option, Some, None, refl}
+use Rattle.std.specs.Prelude.{◌≡◌, ℕ, Bool, true, false, not, ◌&&◌, if◌then◌else◌, List, [], ◌∷◌, ◌++◌, codes, Option, Some, None, Result, Ok, Err, refl}
 use Rattle.std.specs.List.{flat_map}
 use Rattle.std.specs.Str.{bytes_eq}
 use Rattle.std.specs.Coded.{Coded, code_by, coded×, coded_bool, coded_list}
@@ -10,9 +10,14 @@ use Rattle.cb_tree.specs.declared.node.NodeKind.{NodeKind}
 use Rattle.cb_tree.specs.declared.node.NodeKind.TheVariants.{Text, If, Ifdef, Ifndef, Elif, Else, Endif, Define, Undef, Include, Once, Error, Other}
 use Rattle.cb_tree.specs.Kinds.{is_identifier_kind}
 use Rattle.cb_tree.specs.Nodes.{Node, node_rest}
+use Rattle.cb_paths.specs.declared.language.Language.TheVariants.{C}
+use Rattle.cb_cond.specs.declared.bad_condition.BadCondition.{BadCondition}
+use Rattle.cb_cond.specs.Symbols.{symbols}
+use Rattle.cb_cond.specs.Faults.{IsAnswer}
 use Rattle.codebasin.specs.declared.section.Section.{Section}
+use Rattle.codebasin.specs.Defined.{answered}
 use Rattle.codebasin.specs.NameSet.{NameSet, name_set_code}
-use Rattle.codebasin.specs.Sections.{is_live, is_before_live, entered, continued, turned, closed}
+use Rattle.codebasin.specs.Sections.{is_live, is_before_live, may_be_taken, entered, continued, turned, closed}
 
 -- a section is stored as the pairs of its fields
 abbrev pub section_code : Coded Section
@@ -53,21 +58,47 @@ abbrev pub is_undefined : Option (List ℕ) → NameSet → Bool
 is_undefined None names = false
 is_undefined (Some name) names = not (set.contains names name)
 
--- the condition of a directive of the kind; one without its identifier is false (6.10.1 paragraphs 1 and 5; a malformed one is own)
-abbrev pub condition : NodeKind → List Token → NameSet → Bool
-condition Text rest names = false
-condition If rest names = false
-condition Ifdef rest names = is_defined (first_name rest) names
-condition Ifndef rest names = is_undefined (first_name rest) names
-condition Elif rest names = false
-condition Else rest names = false
-condition Endif rest names = false
-condition Define rest names = false
-condition Undef rest names = false
-condition Include rest names = false
-condition Once rest names = false
-condition Error rest names = false
-condition Other rest names = false
+-- the condition of a directive of the kind is looked at: in live text, and of #elif where no group was taken (6.10.1 paragraph 6)
+abbrev pub is_asked : NodeKind → List Section → Bool
+is_asked Text sections = false
+is_asked If sections = is_live sections
+is_asked Ifdef sections = is_live sections
+is_asked Ifndef sections = is_live sections
+is_asked Elif sections = may_be_taken sections
+is_asked Else sections = false
+is_asked Endif sections = false
+is_asked Define sections = false
+is_asked Undef sections = false
+is_asked Include sections = false
+is_asked Once sections = false
+is_asked Error sections = false
+is_asked Other sections = false
+
+-- what a condition holds; one with a fault is false (own)
+abbrev pub truth : Result Bool BadCondition → Bool
+truth (Ok holds) = holds
+truth (Err fault) = false
+
+-- the tokens of #if or #elif hold so (6.10.1 paragraphs 3 and 4)
+abbrev pub IsTruth : List Token → NameSet → Bool → Type 0
+IsTruth rest names holds =
+    (answer : Result Bool BadCondition) × IsAnswer (symbols C (answered names rest)) answer × (holds ≡ truth answer)
+
+-- the condition of a directive of the kind holds so; one without its identifier is false (6.10.1 paragraph 5; own)
+abbrev pub Holds : NodeKind → List Token → NameSet → Bool → Type 0
+Holds Text rest names holds = holds ≡ false
+Holds If rest names holds = IsTruth rest names holds
+Holds Ifdef rest names holds = holds ≡ is_defined (first_name rest) names
+Holds Ifndef rest names holds = holds ≡ is_undefined (first_name rest) names
+Holds Elif rest names holds = IsTruth rest names holds
+Holds Else rest names holds = holds ≡ false
+Holds Endif rest names holds = holds ≡ false
+Holds Define rest names holds = holds ≡ false
+Holds Undef rest names holds = holds ≡ false
+Holds Include rest names holds = holds ≡ false
+Holds Once rest names holds = holds ≡ false
+Holds Error rest names holds = holds ≡ false
+Holds Other rest names holds = holds ≡ false
 
 -- whether a node of the kind is reached: #elif, #else and #endif where their section stands in live text (own), any other in live text
 abbrev pub is_reached : NodeKind → List Section → Bool
@@ -127,18 +158,23 @@ names_behind Once rest names = names
 names_behind Error rest names = names
 names_behind Other rest names = names
 
--- the state behind a node; in a skipped group only the kinds of directives are looked at (6.10.1 paragraph 6)
-abbrev pub state_behind : NodeKind → List Token → State → State
-state_behind kind rest state = record {
-  sections = sections_behind kind (condition kind rest state.names) state.sections;
+-- the state behind a node, with its condition; in a skipped group only the kinds of directives are looked at (6.10.1 paragraph 6)
+abbrev pub state_behind : NodeKind → Bool → List Token → State → State
+state_behind kind condition rest state = record {
+  sections = sections_behind kind condition state.sections;
   names = if is_live state.sections then names_behind kind rest state.names else state.names;
 }
 
--- the reached nodes, in order
-abbrev pub reached_nodes : List Node → State → List Node
-reached_nodes [] state = []
-reached_nodes (n ∷ ns) state =
-    (if is_reached n.kind state.sections then n ∷ [] else []) ++ reached_nodes ns (state_behind n.kind (node_rest n) state)
+-- the node where it is reached, and nothing else
+abbrev pub reached_here : Node → State → List Node
+reached_here n state = if is_reached n.kind state.sections then n ∷ [] else []
+
+-- A pass from a state over the nodes reaches these, in order. A condition is what its directive says wherever it is looked at.
+abbrev pub Reaches : List Node → State → List Node → Type 0
+Reaches [] state reached = reached ≡ []
+Reaches (n ∷ ns) state reached =
+    (condition : Bool) × (is_asked n.kind state.sections ≡ true → Holds n.kind (node_rest n) state.names condition)
+    × ((more : List Node) × Reaches ns (state_behind n.kind condition (node_rest n) state) more × (reached ≡ reached_here n state ++ more))
 
 -- the set with more names
 abbrev pub with_names : List (List ℕ) → NameSet → NameSet
@@ -158,6 +194,6 @@ abbrev pub with_numbers : List ℕ → List ℕ → List ℕ
 with_numbers [] set = set
 with_numbers (line ∷ lines) set = with_numbers lines (with_line line set)
 
--- the set of the counted lines of the nodes that a pass with these names reaches, as a rising list (own)
-abbrev pub reached_lines : List (List ℕ) → List Node → List ℕ
-reached_lines names nodes = with_numbers (flat_map (λ n. n.counted) (reached_nodes nodes (start names))) []
+-- the set of the counted lines of nodes, as a rising list (own)
+abbrev pub lines_of_nodes : List Node → List ℕ
+lines_of_nodes nodes = with_numbers (flat_map (λ n. n.counted) nodes) []

@@ -12,6 +12,12 @@ abbrev pub is_before_live : List Section → Bool
 is_before_live [] = false
 is_before_live (s ∷ ss) = s.before
 
+-- the next group of the innermost section may be taken: the section stands in live text, and none of its groups was taken
+-- (6.10.1 paragraph 6)
+abbrev pub may_be_taken : List Section → Bool
+may_be_taken [] = false
+may_be_taken (s ∷ ss) = s.before && not s.taken
+
 -- a section opens, with the condition of its first group
 abbrev pub entered : Bool → List Section → List Section
 entered condition ss =

@@ -35,8 +35,7 @@ fn question_within<'a>(first: &Token, tokens: &'a [Token]) -> Option<Asked<'a>>
         [name, last, ..]
             if first.text.as_slice() == b"(".as_slice()
                 && is_identifier(name)
-                && last.text.as_slice() == b")".as_slice() =>
-        {
+                && last.text.as_slice() == b")".as_slice() => {
             Some(Asked {
                 name: name.text.as_slice(),
                 len: 3,

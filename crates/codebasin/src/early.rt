@@ -3,6 +3,7 @@ ghost use Rattle.std.specs.Prelude.{◌≡◌, ◌≤◌, ◌-◌, length, slice
 ghost use Rattle.cb_tree.specs.Nodes.{Node, node_rest};
 ghost use Rattle.codebasin.specs.NotYet.{is_bare_definition, is_ready, first_unready};
 
+use crate::defined::leaves_name;
 use crate::pass::may_be_macro;
 use cb_tokens::{Token, TokenKind};
 use cb_tree::{NodeKind, Tree};
@@ -25,7 +26,8 @@ fn is_ready(kind: NodeKind, rest: &[Token]) -> bool
     ensures { result ≡ is_ready kind rest.now }
 {
     match kind {
-        NodeKind::If | NodeKind::Elif | NodeKind::Include => false,
+        NodeKind::Include => false,
+        NodeKind::If | NodeKind::Elif => !leaves_name(rest),
         NodeKind::Define => is_bare_definition(rest),
         _ => true,
     }

@@ -1,14 +1,15 @@
 //! A pass over one source: from node to node, with the open sections and the defined names.
-ghost use Rattle.std.specs.Prelude.{◌≡◌, ◌≤◌, ◌-◌, [], length, OnOk, Option, List, ℕ, drop, IfOk, Some, None, map, string_bytes};
+ghost use Rattle.std.specs.Prelude.{Bool, true, false, ◌≡◌, ◌≤◌, ◌-◌, [], length, OnOk, Option, List, ℕ, drop, IfOk, Some, None, map, string_bytes};
 ghost use Rattle.std.specs.Option.{option_copied, option_map};
 ghost use Rattle.std.specs.FinSet as set;
 ghost use Rattle.cb_lines.specs.Lines.{with_line};
-ghost use Rattle.codebasin.specs.Pass.{State, first_name, macro_name, is_defined, is_undefined, condition, is_reached, state_behind, may_be_macro};
+ghost use Rattle.codebasin.specs.Pass.{State, first_name, macro_name, is_defined, is_undefined, is_asked, Holds, IsTruth, is_reached, state_behind, may_be_macro};
 
+use crate::defined::answered;
 use crate::names::Names;
 use crate::section::Sections;
-use cb_lines::Lines;
-use cb_paths::NoMemory;
+use cb_cond::value;
+use cb_paths::{Language, NoMemory};
 use cb_tokens::{Token, TokenKind};
 use cb_tree::{NodeKind, Tree};
 use std::alloc::Global;
@@ -57,6 +58,14 @@ fn macro_name(tokens: &[Token]) -> Option<&[u8]>
     if may_be_macro(name) { Some(name) } else { None }
 }
 
+/// Whether the condition of these tokens holds; one with a fault does not.
+fn truth(alloc: Global, names: &Names, rest: &[Token]) -> Result<bool, NoMemory>
+    ensures { IfOk result (IsTruth rest.now names.now) }
+{
+    let tokens = answered(alloc, names, rest)?;
+    Ok(value(tokens.as_slice(), Language::C).unwrap_or(false))
+}
+
 impl<'a> Pass<'a> {
     /// A pass with these names, at the start of its source.
     pub(crate) fn new(alloc: Global, names: Names<'a>) -> Pass<'a>
@@ -78,36 +87,78 @@ impl<'a> Pass<'a> {
         }
     }
 
-    /// The condition of a directive of the kind.
-    fn condition(&self, kind: NodeKind, rest: &[Token]) -> bool
-        ensures { result ≡ condition kind rest.now self.now.names }
+    /// Whether the condition of a directive of the kind is looked at here.
+    fn asks(&self, kind: NodeKind) -> bool
+        ensures { result ≡ is_asked kind self.now.sections }
     {
         match kind {
-            NodeKind::Ifdef => match first_name(rest) {
-                Some(name) => self.names.has(name),
-                None => false,
-            },
-            NodeKind::Ifndef => match first_name(rest) {
-                Some(name) => !self.names.has(name),
-                None => false,
-            },
+            NodeKind::If | NodeKind::Ifdef | NodeKind::Ifndef => self.sections.is_live(),
+            NodeKind::Elif => self.sections.may_be_taken(),
             _ => false,
         }
     }
 
-    /// Goes past a node. After want of memory no more is said of the pass.
-    pub(crate) fn go_past(&mut self, kind: NodeKind, rest: &'a [Token]) -> Result<(), NoMemory>
-        ensures { OnOk result (self.new ≡ state_behind kind rest.now self.old) }
+    /// The condition of a directive of the kind.
+    fn condition(&self, alloc: Global, kind: NodeKind, rest: &[Token]) -> Result<bool, NoMemory>
+        ensures { IfOk result (λ holds. Holds kind rest.now self.now.names holds) }
     {
         match kind {
-            NodeKind::If | NodeKind::Ifdef | NodeKind::Ifndef => {
-                let condition = self.condition(kind, rest);
-                self.sections.enter(condition)?;
-            }
-            NodeKind::Elif => {
-                let condition = self.condition(kind, rest);
-                self.sections.go_on(condition);
-            }
+            NodeKind::If | NodeKind::Elif => truth(alloc, &self.names, rest),
+            NodeKind::Ifdef => match first_name(rest) {
+                Some(name) => Ok(self.names.has(name)),
+                None => Ok(false),
+            },
+            NodeKind::Ifndef => match first_name(rest) {
+                Some(name) => Ok(!self.names.has(name)),
+                None => Ok(false),
+            },
+            _ => Ok(false),
+        }
+    }
+
+    /// The condition of a directive of the kind where it is looked at, and false elsewhere.
+    fn condition_here(
+        &self,
+        alloc: Global,
+        kind: NodeKind,
+        rest: &[Token],
+    ) -> Result<bool, NoMemory>
+        ensures { IfOk result (λ holds. is_asked kind self.now.sections ≡ true → Holds kind rest.now self.now.names holds) }
+    {
+        if self.asks(kind) {
+            self.condition(alloc, kind, rest)
+        } else {
+            Ok(false)
+        }
+    }
+
+    /// Goes past a node. After want of memory no more is said of the pass.
+    pub(crate) fn go_past(
+        &mut self,
+        alloc: Global,
+        kind: NodeKind,
+        rest: &'a [Token],
+    ) -> Result<(), NoMemory>
+        ensures { OnOk result ((holds : Bool)
+            × (is_asked kind self.old.sections ≡ true → Holds kind rest.now self.old.names holds)
+            × (self.new ≡ state_behind kind holds rest.now self.old)) }
+    {
+        let holds = self.condition_here(alloc, kind, rest)?;
+        self.go_past_with(kind, holds, rest)
+    }
+
+    /// Goes past a node whose condition is known.
+    fn go_past_with(
+        &mut self,
+        kind: NodeKind,
+        holds: bool,
+        rest: &'a [Token],
+    ) -> Result<(), NoMemory>
+        ensures { OnOk result (self.new ≡ state_behind kind holds rest.now self.old) }
+    {
+        match kind {
+            NodeKind::If | NodeKind::Ifdef | NodeKind::Ifndef => self.sections.enter(holds)?,
+            NodeKind::Elif => self.sections.go_on(holds),
             NodeKind::Else => self.sections.turn(),
             NodeKind::Endif => self.sections.close(),
             NodeKind::Define => self.define(rest)?,
@@ -119,7 +170,7 @@ impl<'a> Pass<'a> {
 
     /// Takes up the definition of a macro, where it stands in live text.
     fn define(&mut self, rest: &'a [Token]) -> Result<(), NoMemory>
-        ensures { OnOk result (self.new ≡ state_behind NodeKind.Define rest.now self.old) }
+        ensures { OnOk result (self.new ≡ state_behind NodeKind.Define false rest.now self.old) }
     {
         if self.sections.is_live() {
             if let Some(name) = macro_name(rest) {
@@ -131,12 +182,13 @@ impl<'a> Pass<'a> {
 
     /// Forgets a macro, where that stands in live text.
     fn undefine(&mut self, rest: &[Token])
-        ensures { self.new ≡ state_behind NodeKind.Undef rest.now self.old }
+        ensures { self.new ≡ state_behind NodeKind.Undef false rest.now self.old }
     {
-        if self.sections.is_live() {
-            if let Some(name) = macro_name(rest) {
-                self.names.remove(name);
-            }
+        if !self.sections.is_live() {
+            return;
+        }
+        if let Some(name) = macro_name(rest) {
+            self.names.remove(name);
         }
     }
 }

@@ -1,8 +1,7 @@
 //! The counted lines that a pass reaches.
-ghost use Rattle.std.specs.Prelude.{◌≡◌, ◌≤◌, ◌-◌, [], length, slice_get, Some, OnOk, IfOk, if◌then◌else◌};
-ghost use Rattle.std.specs.List.{flat_map};
+ghost use Rattle.std.specs.Prelude.{◌≡◌, ◌≤◌, ◌-◌, [], true, Bool, List, length, slice_get, Some, OnOk, IfOk, if◌then◌else◌};
 ghost use Rattle.cb_lines.specs.Lines.{span_lines};
-ghost use Rattle.codebasin.specs.Pass.{reached_nodes, with_numbers, is_reached, state_behind};
+ghost use Rattle.codebasin.specs.Pass.{Reaches, Holds, is_asked, with_numbers, lines_of_nodes, is_reached, state_behind};
 ghost use Rattle.cb_tree.specs.Nodes.{Node, node_rest};
 
 use crate::names::Names;
@@ -46,20 +45,22 @@ fn add_where(set: &mut Lines, reached: bool, lines: &Lines) -> Result<(), NoMemo
 
 /// Goes past a node, whose counted lines go into the set where it is reached.
 fn visit<'a>(
+    alloc: Global,
     pass: &mut Pass<'a>,
     set: &mut Lines,
     tree: &'a Tree,
     node: u32,
 ) -> Result<(), NoMemory>
     requires { (1 ≤ node) × (node ≤ length tree.now) }
-    ensures state { OnOk result ((n : Node) → slice_get tree.now (node - 1) ≡ Some n
-        → pass.new ≡ state_behind n.kind (node_rest n) pass.old) }
+    ensures state { OnOk result ((n : Node) → slice_get tree.now (node - 1) ≡ Some n → (holds : Bool)
+        × (is_asked n.kind pass.old.sections ≡ true → Holds n.kind (node_rest n) pass.old.names holds)
+        × (pass.new ≡ state_behind n.kind holds (node_rest n) pass.old)) }
     ensures lines { OnOk result ((n : Node) → slice_get tree.now (node - 1) ≡ Some n
         → set.new ≡ with_numbers (if is_reached n.kind pass.old.sections then n.counted else []) set.old) }
 {
     let kind = tree.kind(node);
     add_where(set, pass.reaches(kind), tree.counted(node))?;
-    pass.go_past(kind, tree.rest(node))
+    pass.go_past(alloc, kind, tree.rest(node))
 }
 
 /// The set of the counted lines of the nodes that a pass over a tree reaches, where these names are defined at its start.
@@ -68,13 +69,13 @@ pub(crate) fn reached_lines<'a>(
     tree: &'a Tree,
     names: Names<'a>,
 ) -> Result<Lines, NoMemory>
-    ensures { IfOk result (λ lines. lines ≡ with_numbers
-        (flat_map (λ n. n.counted) (reached_nodes tree.now (record { sections = []; names = names.entry }))) []) }
+    ensures { IfOk result (λ lines. (reached : List Node)
+        × Reaches tree.now (record { sections = []; names = names.entry }) reached × (lines ≡ lines_of_nodes reached)) }
 {
     let mut lines = Lines::new(alloc);
     let mut pass = Pass::new(alloc, names);
     for index in 0..tree.len() {
-        visit(&mut pass, &mut lines, tree, index + 1)?;
+        visit(alloc, &mut pass, &mut lines, tree, index + 1)?;
     }
     Ok(lines)
 }

@@ -1,6 +1,6 @@
 //! The if sections that are open at a place of a source.
 ghost use Rattle.std.specs.Prelude.{◌≡◌, [], OnOk};
-ghost use Rattle.codebasin.specs.Sections.{is_live, is_before_live, entered, continued, turned, closed, section_continued, section_turned};
+ghost use Rattle.codebasin.specs.Sections.{is_live, is_before_live, may_be_taken, entered, continued, turned, closed, section_continued, section_turned};
 
 use cb_paths::NoMemory;
 use std::alloc::Global;
@@ -58,6 +58,16 @@ impl Sections {
     {
         match self.stack.last() {
             Some(section) => section.before,
+            None => false,
+        }
+    }
+
+    /// Whether the next group of the innermost section may be taken.
+    pub(crate) fn may_be_taken(&self) -> bool
+        ensures { result ≡ may_be_taken self.now }
+    {
+        match self.stack.last() {
+            Some(section) => section.before && !section.taken,
             None => false,
         }
     }
