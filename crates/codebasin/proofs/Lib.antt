@@ -4,6 +4,7 @@ pub mod NamesHeld
 pub mod NotYetSteps
 pub mod Numbers
 pub mod NumberTexts
+pub mod OneSaying
 pub mod PassSteps
 pub mod Stack
 pub mod Statuses

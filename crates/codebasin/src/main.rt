@@ -4,6 +4,7 @@
 mod answering;
 mod defined;
 mod early;
+mod laws;
 mod names;
 mod pass;
 mod reached;
