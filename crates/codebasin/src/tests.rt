@@ -63,60 +63,61 @@ fn words_are_read(rt: HostRuntime) -> Result<(), Fail> {
     Ok(())
 }
 
+const SPECIALISED: [(&[u8], u8, &[u8]); 13] = [
+    (b"", 0, b""),
+    (b"x;\n#define A 1\n", 2, b"error input: not yet line 2\n"),
+    (
+        b"#define A\n#include \"a\"\n",
+        2,
+        b"error input: not yet line 2\n",
+    ),
+    (
+        b"#ifndef A\n#define A\na;\n#endif\n#ifdef A\nb;\n#endif\n",
+        0,
+        b"1\n2\n3\n4\n5\n6\n7\n",
+    ),
+    (
+        b"#ifdef A\n#define B\n#endif\n#ifdef B\nb;\n#endif\n",
+        0,
+        b"1\n3\n4\n6\n",
+    ),
+    (
+        b"#ifdef A\n#ifdef B\nx;\n#else\ny;\n#endif\n#endif\n",
+        0,
+        b"1\n7\n",
+    ),
+    (
+        b"#define A\n#undef A\n#ifdef A\nx;\n#endif\n#ifndef\nz;\n#endif\n",
+        0,
+        b"1\n2\n3\n5\n6\n8\n",
+    ),
+    (b"#ifdef __STDC__\nx;\n#endif\n", 0, b"1\n2\n3\n"),
+    (b"int a; /* x\ny\nz */ int b;\n", 0, b"1\n3\n"),
+    (
+        b"#if A\nx;\n#else\ny;\n#else\n#endif\n",
+        2,
+        b"error input: bad source 5 AfterElse line 5\n",
+    ),
+    (
+        b"x;\n#endif\n",
+        2,
+        b"error input: bad source 4 StrayEndif line 2\n",
+    ),
+    (
+        b"\n#ifdef A\n",
+        2,
+        b"error input: bad source 6 OpenIf line 2\n",
+    ),
+    (
+        b"\n /* x\n",
+        2,
+        b"error input: bad source 1 OpenComment line 2\n",
+    ),
+];
+
 #[test]
 fn sources_are_specialised(rt: HostRuntime) -> Result<(), Fail> {
-    let rows: [(&[u8], u8, &[u8]); 13] = [
-        (b"", 0, b""),
-        (b"x;\n#define A 1\n", 2, b"error input: not yet line 2\n"),
-        (
-            b"#define A\n#include \"a\"\n",
-            2,
-            b"error input: not yet line 2\n",
-        ),
-        (
-            b"#ifndef A\n#define A\na;\n#endif\n#ifdef A\nb;\n#endif\n",
-            0,
-            b"1\n2\n3\n4\n5\n6\n7\n",
-        ),
-        (
-            b"#ifdef A\n#define B\n#endif\n#ifdef B\nb;\n#endif\n",
-            0,
-            b"1\n3\n4\n6\n",
-        ),
-        (
-            b"#ifdef A\n#ifdef B\nx;\n#else\ny;\n#endif\n#endif\n",
-            0,
-            b"1\n7\n",
-        ),
-        (
-            b"#define A\n#undef A\n#ifdef A\nx;\n#endif\n#ifndef\nz;\n#endif\n",
-            0,
-            b"1\n2\n3\n5\n6\n8\n",
-        ),
-        (b"#ifdef __STDC__\nx;\n#endif\n", 0, b"1\n2\n3\n"),
-        (b"int a; /* x\ny\nz */ int b;\n", 0, b"1\n3\n"),
-        (
-            b"#if A\nx;\n#else\ny;\n#else\n#endif\n",
-            2,
-            b"error input: bad source 5 AfterElse line 5\n",
-        ),
-        (
-            b"x;\n#endif\n",
-            2,
-            b"error input: bad source 4 StrayEndif line 2\n",
-        ),
-        (
-            b"\n#ifdef A\n",
-            2,
-            b"error input: bad source 6 OpenIf line 2\n",
-        ),
-        (
-            b"\n /* x\n",
-            2,
-            b"error input: bad source 1 OpenComment line 2\n",
-        ),
-    ];
-    for (source, status, text) in rows {
+    for (source, status, text) in SPECIALISED {
         let (got, out) = run_over(&rt, &["specialise"], source)?;
         assert_eq!(rt; got, status);
         assert_eq!(rt; out.taken(), text);
@@ -124,50 +125,51 @@ fn sources_are_specialised(rt: HostRuntime) -> Result<(), Fail> {
     Ok(())
 }
 
+const CONDITIONS: [(&[u8], u8, &[u8]); 11] = [
+    (
+        b"#if 0\n#elif 1\na;\n#elif 1/0\nb;\n#endif\n",
+        0,
+        b"1\n2\n3\n4\n6\n",
+    ),
+    (b"#if 1/0\na;\n#else\nb;\n#endif\n", 0, b"1\n3\n4\n5\n"),
+    (b"#if (1\na;\n#endif\n", 0, b"1\n3\n"),
+    (b"#if defined GPU\na;\n#endif\n", 0, b"1\n2\n3\n"),
+    (
+        b"#if !defined ( CPU ) && -1 > 0u\na;\n#endif\n",
+        0,
+        b"1\n2\n3\n",
+    ),
+    (
+        b"#if defined(GPU)+defined CPU==1\na;\n#endif\n",
+        0,
+        b"1\n2\n3\n",
+    ),
+    (
+        b"#define A\n#ifdef A\n#if defined A\na;\n#elif defined B\nb;\n#endif\n#endif\n",
+        0,
+        b"1\n2\n3\n4\n5\n7\n8\n",
+    ),
+    (b"x;\n#if A\n#endif\n", 2, b"error input: not yet line 2\n"),
+    (
+        b"#if 0\n#elif B\n#endif\n",
+        2,
+        b"error input: not yet line 2\n",
+    ),
+    (
+        b"#if defined\n#endif\n",
+        2,
+        b"error input: not yet line 1\n",
+    ),
+    (
+        b"#if defined(GPU\n#endif\n",
+        2,
+        b"error input: not yet line 1\n",
+    ),
+];
+
 #[test]
 fn conditions_choose(rt: HostRuntime) -> Result<(), Fail> {
-    let rows: [(&[u8], u8, &[u8]); 11] = [
-        (
-            b"#if 0\n#elif 1\na;\n#elif 1/0\nb;\n#endif\n",
-            0,
-            b"1\n2\n3\n4\n6\n",
-        ),
-        (b"#if 1/0\na;\n#else\nb;\n#endif\n", 0, b"1\n3\n4\n5\n"),
-        (b"#if (1\na;\n#endif\n", 0, b"1\n3\n"),
-        (b"#if defined GPU\na;\n#endif\n", 0, b"1\n2\n3\n"),
-        (
-            b"#if !defined ( CPU ) && -1 > 0u\na;\n#endif\n",
-            0,
-            b"1\n2\n3\n",
-        ),
-        (
-            b"#if defined(GPU)+defined CPU==1\na;\n#endif\n",
-            0,
-            b"1\n2\n3\n",
-        ),
-        (
-            b"#define A\n#ifdef A\n#if defined A\na;\n#elif defined B\nb;\n#endif\n#endif\n",
-            0,
-            b"1\n2\n3\n4\n5\n7\n8\n",
-        ),
-        (b"x;\n#if A\n#endif\n", 2, b"error input: not yet line 2\n"),
-        (
-            b"#if 0\n#elif B\n#endif\n",
-            2,
-            b"error input: not yet line 2\n",
-        ),
-        (
-            b"#if defined\n#endif\n",
-            2,
-            b"error input: not yet line 1\n",
-        ),
-        (
-            b"#if defined(GPU\n#endif\n",
-            2,
-            b"error input: not yet line 1\n",
-        ),
-    ];
-    for (source, status, text) in rows {
+    for (source, status, text) in CONDITIONS {
         let (got, out) = run_over(&rt, &["specialise", "-DGPU"], source)?;
         assert_eq!(rt; got, status);
         assert_eq!(rt; out.taken(), text);
