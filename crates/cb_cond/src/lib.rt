@@ -7,6 +7,7 @@ mod condition;
 mod evaluation;
 mod frames;
 mod integers;
+mod laws;
 mod meaning;
 mod nesting;
 mod operations;
@@ -19,3 +20,4 @@ mod words;
 
 pub use bad_condition::BadCondition;
 pub use condition::value;
+pub use laws::one_condition;
