@@ -1,7 +1,8 @@
 -- Marks more whose lines are added to a set.
-use Rattle.std.proofs.Common.{◌≡◌, ◌+◌, ◌-◌, ◌<◌, ◌≤◌, ℕ, List, [], ◌∷◌, ◌++◌, length, get_or, take, drop, refl, sym, ap, ◌∙◌, suc, zero, arith}
-use Rattle.std.proofs.lemmas.List.{take_more, drop-drop}
+use Rattle.std.proofs.Common.{◌≡◌, ◌+◌, ◌-◌, ◌<◌, ◌≤◌, ℕ, false, List, [], ◌∷◌, ◌++◌, length, get_or, take, drop, get_or-drop, refl, sym, ap, ◌∙◌, suc, zero, arith}
+use Rattle.std.proofs.lemmas.List.{take_more, drop-drop, drop-map}
 use Rattle.cb_lines.specs.declared.mark.Mark.{Mark}
+use Rattle.cb_lines.specs.Marks.{bytes_of, is_line_feed}
 use Rattle.cb_lines.specs.Lines.{with_line, with_lines}
 
 pub with_lines-append : (xs ys : List Mark) (set : List ℕ) → with_lines (xs ++ ys) set ≡ with_lines ys (with_lines xs set)
@@ -38,3 +39,10 @@ pub drop_more_row : (count left row : ℕ) (all now : List Mark) → left ≤ co
 drop_more_row count left row all now within fits at =
     let e : (count - left) + row ≡ count - (left - row) = omega arith in
     ap (λ (ms : List Mark). drop row ms) at ∙ (drop-drop row (count - left) all ∙ ap (λ (n : ℕ). drop n all) e)
+
+-- the marks that are left of some of which none but the last is an LF
+pub plain_left : (count left : ℕ) (all now : List Mark) → left ≤ count → now ≡ drop (count - left) all → ((k : ℕ) → k + 1 < count → is_line_feed (get_or (bytes_of all) k 0) ≡ false) → (k : ℕ) → k + 1 < left → is_line_feed (get_or (bytes_of now) k 0) ≡ false
+plain_left count left all now within at plain k h =
+    ap (λ (ms : List Mark). is_line_feed (get_or (bytes_of ms) k 0)) at
+    ∙ (ap (λ (bs : List ℕ). is_line_feed (get_or bs k 0)) (sym (drop-map (λ (m : Mark). m.byte) (count - left) all))
+    ∙ (ap is_line_feed (get_or-drop (count - left) (bytes_of all) k 0) ∙ plain (count - left + k) (omega arith)))

@@ -1,10 +1,10 @@
 -- Marks kept as bytes and splices: one byte or one splice more, and what is left of them behind some.
-use Rattle.std.proofs.Common.{◌≡◌, ℕ, ◌+◌, ◌-◌, ◌^◌, ◌<◌, ◌≤◌, min, false, cond, leb, List, [], ◌∷◌, ◌++◌, length, get_or, take, drop, refl, sym, ap, ◌∙◌, suc, zero, inl, inr, arith}
+use Rattle.std.proofs.Common.{◌≡◌, ℕ, ◌+◌, ◌-◌, ◌^◌, ◌<◌, ◌≤◌, min, false, cond, leb, List, [], ◌∷◌, ◌++◌, length, get_or, take, drop, refl, sym, ap, ◌∙◌, subst, suc, zero, inl, inr, arith}
 use Rattle.std.proofs.lemmas.Bool.{cases_lt, cases_order, le-leb, lt-leb, le-ltb, lt-ltb, eq-eqb, ne_eqb}
 use Rattle.std.proofs.lemmas.List.{take_more, drop_more}
 use Rattle.cb_lines.specs.declared.mark.Mark.{Mark}
 use Rattle.cb_lines.specs.Marks.{bytes_of, first_line, is_line_feed}
-use Rattle.cb_lines.specs.Lines.{with_line, with_lines}
+use Rattle.cb_lines.specs.Lines.{with_line, with_lines, StandOn}
 use Rattle.cb_lines.specs.Held.{passed, feeds, marks_held, Rises}
 
 -- one for an LF
@@ -120,6 +120,16 @@ one_line (suc (suc n)) line at (b ∷ bs) ss full le small h plain set =
     ∙ (one_line (suc n) line (at + 1) bs ss (omega arith) (omega arith) small (Rises-weaker (at + 1 + suc n) (at + suc (suc n)) ss (omega arith) h) (λ k l. plain (suc k) (omega arith)) (with_line line set)
     ∙ with_line-again line set))
 
+pub held_on_line : (n line at : ℕ) (bs ss : List ℕ) → n ≤ length bs → line < 2 ^ 32 → Rises (at + n) ss → ((k : ℕ) → k + 1 < n → is_line_feed (get_or bs k 0) ≡ false) → StandOn line (take n (marks_held line at bs ss))
+held_on_line zero line at bs ss le small h plain = tt
+held_on_line (suc n) line at [] ss le small h plain = tt
+held_on_line (suc zero) line at (b ∷ bs) ss le small h plain =
+    (let none = passed-none at (at + 1) ss (Rises-weaker (at + 1) (at + suc zero) ss (omega arith) h) (omega arith) in omega (arith, none), tt)
+held_on_line (suc (suc n)) line at (b ∷ bs) ss le small h plain =
+    let none = passed-none at (at + 1) ss (Rises-weaker (at + 1) (at + suc (suc n)) ss (omega arith) h) (omega arith) in
+    let f : line ≡ line + feed b = rw (plain 0 (omega arith)) (omega arith) in
+    (omega (arith, none), subst (λ (l : ℕ). StandOn line (take (suc n) (marks_held l (at + 1) bs ss))) f (held_on_line (suc n) line (at + 1) bs ss (omega arith) small (Rises-weaker (at + 1 + suc n) (at + suc (suc n)) ss (omega arith) h) (λ k l. plain (suc k) (omega arith))))
+
 pub held-first : (line at : ℕ) (bs ss : List ℕ) → 0 < length (marks_held line at bs ss) → line < 2 ^ 32 → Rises (at + 1) ss → line ≡ first_line (marks_held line at bs ss)
 held-first line at [] ss full small h = absurd (omega arith)
 held-first line at (b ∷ bs) ss full small h = (let none = passed-none at (at + 1) ss h (omega arith) in omega (arith, none))
@@ -130,6 +140,14 @@ feeds-append (b ∷ bs) cs = omega (arith, feeds-append bs cs)
 
 pub feeds_more : (bs : List ℕ) (i : ℕ) → i < length bs → feeds (take (i + 1) bs) ≡ feeds (take i bs) + feed (get_or bs i 0)
 feeds_more bs i h = ap feeds (take_more bs i 0 h) ∙ (feeds-append (take i bs) (get_or bs i 0 ∷ []) ∙ omega arith)
+
+-- bytes of which none but the last is an LF
+pub feeds_last : (n : ℕ) (bs : List ℕ) → n < length bs → ((k : ℕ) → k < n → is_line_feed (get_or bs k 0) ≡ false) → feeds (take (suc n) bs) ≡ feed (get_or bs n 0)
+feeds_last n [] h plain = absurd (omega arith)
+feeds_last zero (b ∷ bs) h plain = omega arith
+feeds_last (suc n) (b ∷ bs) h plain =
+    let none : feed b ≡ 0 = rw (plain 0 (omega arith)) refl in
+    omega (arith, none, feeds_last n bs (omega arith) (λ k l. plain (suc k) (omega arith)))
 
 -- the splices from the first on that stands behind a mark
 pub Rises-behind : (n at low : ℕ) (ss : List ℕ) → Rises low ss → ((n < length ss) × (get_or ss n 0 ≤ at) → ⊥) → Rises (at + 1) (drop n ss)
@@ -151,3 +169,15 @@ past_more from line n at ss h le same bs =
 pub held-behind : (count line at : ℕ) (bs ss : List ℕ) (from : ℕ) → from ≡ min (2 ^ 32 - 1) (line + feeds (take count bs)) → marks_held from (at + count) (drop count bs) ss ≡ drop count (marks_held line at bs ss)
 held-behind count line at bs ss from e =
     held-capped from (line + feeds (take count bs)) (at + count) (drop count bs) ss (omega arith) ∙ sym (held-drop count line at bs ss)
+
+-- marks on one line, which is added already
+on_line_again : (line : ℕ) (ms : List Mark) (set : List ℕ) → StandOn line ms → with_lines ms (with_line line set) ≡ with_line line set
+on_line_again line [] set h = refl
+on_line_again line (m ∷ ms) set h =
+    ap (λ (l : ℕ). with_lines ms (with_line l (with_line line set))) h.0
+    ∙ (ap (λ (ls : List ℕ). with_lines ms ls) (with_line-again line set) ∙ on_line_again line ms set h.1)
+
+pub on_line_once : (line : ℕ) (ms : List Mark) (set : List ℕ) → 0 < length ms → StandOn line ms → with_lines ms set ≡ with_line line set
+on_line_once line [] set some h = absurd (omega arith)
+on_line_once line (m ∷ ms) set some h =
+    ap (λ (l : ℕ). with_lines ms (with_line l set)) h.0 ∙ on_line_again line ms set h.1

@@ -241,16 +241,16 @@ kept_splice source i j bytes ss splice e k =
     ]
 
 -- bytes at which nothing begins
-kept_bytes : (n : ℕ) (source : List ℕ) (i : ℕ) (bytes ss : List ℕ) → i + n ≤ length source → ((k : ℕ) → i ≤ k → k < i + n → is_special (byte_at source k) ≡ false) → Kept source i bytes ss → Kept source (i + n) (bytes ++ take n (drop i source)) ss
+kept_bytes : (n : ℕ) (source : List ℕ) (i : ℕ) (bytes ss : List ℕ) → i + n ≤ length source → ((k : ℕ) → i ≤ k → k < i + n → (is_line_return source k ≡ false) × (is_splice source k ≡ false)) → Kept source i bytes ss → Kept source (i + n) (bytes ++ take n (drop i source)) ss
 kept_bytes zero source i bytes ss h plain k =
     let e : i ≡ i + 0 = omega arith in
     subst (λ (n : ℕ). Kept source n (bytes ++ []) ss) e (subst (λ (bs : List ℕ). Kept source i bs ss) (sym (append-nil bytes)) k)
 kept_bytes (suc n) source i bytes ss h plain k =
     let b : ℕ = byte_at source i in
     let l : i < length source = omega arith in
-    let none = or_parts (b == 92) (b == 13) (plain i (omega arith) (omega arith)) in
+    let none = plain i (omega arith) (omega arith) in
     let one : Kept source (i + 1) (bytes ++ b ∷ []) ss =
-    kept_byte source i bytes ss l (and_left (b == 13) (is_line_feed (byte_at source (i + 1))) none.1) (and_left (b == 92) (begins_line_end source (i + 1)) none.0) k in
+    kept_byte source i bytes ss l none.0 none.1 k in
     let rest : Kept source (i + 1 + n) ((bytes ++ b ∷ []) ++ take n (drop (i + 1) source)) ss =
     kept_bytes n source (i + 1) (bytes ++ b ∷ []) ss (omega arith) (λ k le lt. plain k (omega arith) (omega arith)) one in
     let e : i + 1 + n ≡ i + suc n = omega arith in
@@ -258,7 +258,7 @@ kept_bytes (suc n) source i bytes ss h plain k =
     append_assoc bytes (b ∷ []) (take n (drop (i + 1) source)) ∙ ap (λ (bs : List ℕ). bytes ++ take (suc n) bs) (sym (drop_more source i 0 l)) in
     subst (λ (m : ℕ). Kept source m (bytes ++ take (suc n) (drop i source)) ss) e (subst (λ (bs : List ℕ). Kept source (i + 1 + n) bs ss) same rest)
 
-pub kept_run : (source : List ℕ) (i j : ℕ) (bytes ss : List ℕ) → i ≤ j → j ≤ length source → ((k : ℕ) → i ≤ k → k < j → is_special (byte_at source k) ≡ false) → Kept source i bytes ss → Kept source j (bytes ++ take (j - i) (drop i source)) ss
+pub kept_run : (source : List ℕ) (i j : ℕ) (bytes ss : List ℕ) → i ≤ j → j ≤ length source → ((k : ℕ) → i ≤ k → k < j → (is_line_return source k ≡ false) × (is_splice source k ≡ false)) → Kept source i bytes ss → Kept source j (bytes ++ take (j - i) (drop i source)) ss
 kept_run source i j bytes ss le h plain k =
     let e : i + (j - i) ≡ j = omega arith in
     subst (λ (m : ℕ). Kept source m (bytes ++ take (j - i) (drop i source)) ss) e (kept_bytes (j - i) source i bytes ss (omega arith) (λ k le lt. plain k le (omega arith)) k)
@@ -266,3 +266,14 @@ kept_run source i j bytes ss le h plain k =
 pub kept_all : (source : List ℕ) (i : ℕ) (bytes ss : List ℕ) → length source ≤ i → Kept source i bytes ss → marks_held 1 0 bytes ss ≡ marks_of source
 kept_all source i bytes ss h k =
     sym (append-nil (marks_held 1 0 bytes ss)) ∙ (ap (λ (ms : List Mark). marks_held 1 0 bytes ss ++ ms) (sym (marks_from-end source i h)) ∙ k.marks)
+
+-- a byte that is no CR and no backslash
+pub no_cut : (source : List ℕ) (k : ℕ) → is_special (byte_at source k) ≡ false → (is_line_return source k ≡ false) × (is_splice source k ≡ false)
+no_cut source k h =
+    let none = or_parts (byte_at source k == 92) (byte_at source k == 13) h in
+    (and_left (byte_at source k == 13) (is_line_feed (byte_at source (k + 1))) none.1, and_left (byte_at source k == 92) (begins_line_end source (k + 1)) none.0)
+
+pub more_stay : (source : List ℕ) (from at found : ℕ) → ((k : ℕ) → from ≤ k → k < at → (is_line_return source k ≡ false) × (is_splice source k ≡ false)) → ((k : ℕ) → at ≤ k → k < found → is_special (byte_at source k) ≡ false)
+    → (k : ℕ) → from ≤ k → k < found → (is_line_return source k ≡ false) × (is_splice source k ≡ false)
+more_stay source from at found h plain k le lt =
+    elim (cases_lt k at) [ inl before ↦ h k le before | inr behind ↦ no_cut source k (plain k behind lt) ]

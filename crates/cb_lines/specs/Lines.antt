@@ -1,5 +1,5 @@
 -- Sets of line numbers, as rising lists.
-use Rattle.std.specs.Prelude.{ℕ, ◌+◌, ◌-◌, ◌<◌, ◌≤◌, ◌==◌, ◌||◌, Bool, false, nat_lt, if◌then◌else◌, List, [], ◌∷◌}
+use Rattle.std.specs.Prelude.{◌≡◌, ℕ, ◌+◌, ◌-◌, ◌<◌, ◌≤◌, ◌==◌, ◌||◌, Bool, false, nat_lt, if◌then◌else◌, List, [], ◌∷◌}
 use Rattle.std.specs.List.{range_with_len}
 use Rattle.cb_lines.specs.declared.mark.Mark.{Mark}
 use Rattle.cb_lines.specs.declared.line_set.Span.{Span}
@@ -14,6 +14,11 @@ with_line line (l ∷ ls) =
 abbrev pub with_lines : List Mark → List ℕ → List ℕ
 with_lines [] set = set
 with_lines (m ∷ ms) set = with_lines ms (with_line m.line set)
+
+-- each of the marks stands on the line
+abbrev pub StandOn : ℕ → List Mark → Type 0
+StandOn line [] = Unit {0}
+StandOn line (m ∷ ms) = (m.line ≡ line) × StandOn line ms
 
 -- the set of the lines on which marks stand
 abbrev pub lines_of : List Mark → List ℕ

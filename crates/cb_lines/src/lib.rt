@@ -1,6 +1,7 @@
 //! The marks of a source, and sets of line numbers.
 #![tactic(auto)]
 
+mod laws;
 mod line_set;
 mod mark;
 mod merging;
@@ -9,6 +10,7 @@ mod spans;
 mod splicing;
 mod walking;
 
+pub use laws::one_line;
 pub use line_set::{Lines, Span};
 pub use mark::{Mark, Marks};
 pub use reading::Marker;

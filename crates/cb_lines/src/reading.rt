@@ -125,4 +125,20 @@ mod tests {
         }
         Ok(())
     }
+
+    #[test]
+    fn rows_end_at_splices(rt: HostRuntime) -> Result<(), Fail> {
+        let marks = marks(rt.alloc(), b"ab\\\ncd\nef")?;
+        let mut walk = Walk::new(&marks);
+        assert_eq!(rt; walk.row(), b"ab".as_slice());
+        let mut counted = Lines::new(rt.alloc());
+        walk.pass_row_counted(3, &mut counted)?;
+        assert_eq!(rt; counted.count(), 2);
+        assert_eq!(rt; walk.row(), b"d\nef".as_slice());
+        assert_eq!(rt; walk.line(), 2);
+        walk.pass_row(2);
+        assert!(rt; !walk.rest().is_empty());
+        assert_eq!(rt; walk.line(), 3);
+        Ok(())
+    }
 }

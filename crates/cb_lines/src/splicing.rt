@@ -82,6 +82,28 @@ fn special_from(source: &[u8], from: usize) -> usize
     }
 }
 
+/// The first position from one on at which the CR of a line end or a backslash before a line end stands; the length where there is
+/// none.
+fn cut_from(source: &[u8], from: usize) -> usize
+    requires { from ≤ length source.now }
+    ensures within { (from ≤ result) × (result ≤ length source.now) }
+    ensures stays { (k : ℕ) → from ≤ k → k < result → (is_line_return source.now k ≡ false) × (is_splice source.now k ≡ false) }
+    ensures cut { result < length source.now → is_line_return source.now result ≡ false → is_splice source.now result ≡ true }
+{
+    let mut at = from;
+    'specials: while at < source.len() {
+        at = special_from(source, at);
+        if at == source.len()
+            || is_return_of_line_end(source, at)
+            || is_spliced_backslash(source, at)
+        {
+            return at;
+        }
+        at += 1;
+    }
+    at
+}
+
 /// The position behind the line end that begins at a position.
 fn behind_line_end(source: &[u8], at: usize) -> usize
     requires { begins_line_end source.now at ≡ true }
@@ -103,7 +125,7 @@ pub fn marks(alloc: Global, source: &[u8]) -> Result<Marks, NoMemory>
     let mut splices = Vec::new(alloc);
     let mut at = 0;
     'runs: while at < source.len() {
-        let end = special_from(source, at);
+        let end = cut_from(source, at);
         bytes.extend_from_slice(&source[at..end])?;
         if end == source.len() {
             return Ok(Marks { bytes, splices });
@@ -112,13 +134,8 @@ pub fn marks(alloc: Global, source: &[u8]) -> Result<Marks, NoMemory>
             at = end + 1;
             continue;
         }
-        if is_spliced_backslash(source, end) {
-            splices.push(bytes.len())?;
-            at = behind_line_end(source, end + 1);
-            continue;
-        }
-        bytes.push(source[end])?;
-        at = end + 1;
+        splices.push(bytes.len())?;
+        at = behind_line_end(source, end + 1);
     }
     Ok(Marks { bytes, splices })
 }

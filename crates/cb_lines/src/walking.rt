@@ -2,7 +2,7 @@
 ghost use Rattle.std.specs.Prelude.{◌≡◌, ◌+◌, ◌-◌, ◌^◌, ◌<◌, ◌≤◌, ◌↔◌, ℕ, false, List, length, slice_index, take, drop, min, if◌then◌else◌, OnOk, IsTrue};
 ghost use Rattle.cb_lines.specs.Held.{marks_held, feeds, Rises};
 ghost use Rattle.cb_lines.specs.Marks.{bytes_of, first_line, is_line_feed};
-ghost use Rattle.cb_lines.specs.Lines.{with_line, with_lines};
+ghost use Rattle.cb_lines.specs.Lines.{with_line, with_lines, StandOn};
 
 use crate::line_set::Lines;
 use crate::mark::Marks;
@@ -78,6 +78,38 @@ impl<'a> Walk<'a> {
         self.line = line;
     }
 
+    /// The bytes of the marks that are left before the next splice. Those up to the first LF, this among them, stand on the line
+    /// of the first one.
+    pub fn row(&self) -> &'a [u8]
+        ensures within { length result.now ≤ length self.now }
+        ensures front { result.now ≡ take (length result.now) (bytes_of self.now) }
+        ensures one_line { (count : ℕ) → count ≤ length result.now → ((k : ℕ) → k + 1 < count → is_line_feed (slice_index result.now k) ≡ false)
+            → StandOn (first_line self.now) (take count self.now) }
+    {
+        let len = self.bytes.len();
+        if len == 0 {
+            return self.bytes;
+        }
+        &self.bytes[..marks_to_splice(self.splices, self.at, len)]
+    }
+
+    /// Goes past marks of which none but the last is an LF, in the same time for any number of them.
+    pub fn pass_row(&mut self, count: usize)
+        requires full { 0 < count }
+        requires within { count ≤ length self.old }
+        requires plain { (k : ℕ) → k + 1 < count → is_line_feed (slice_index (bytes_of self.old) k) ≡ false }
+        ensures { self.new ≡ drop count self.old }
+    {
+        let line = line_behind(self.line, self.bytes[count - 1]);
+        let (_, rest) = self.bytes.split_at(count);
+        let at = self.at + count;
+        let (splices, line) = past_splices(self.splices, at, line);
+        self.bytes = rest;
+        self.splices = splices;
+        self.at = at;
+        self.line = line;
+    }
+
     /// Goes past marks and adds their lines to a set. Its one error is want of memory, after which both may be used on, and
     /// no more is said of them.
     pub fn pass_counted(&mut self, count: usize, lines: &mut Lines) -> Result<(), NoMemory>
@@ -87,19 +119,50 @@ impl<'a> Walk<'a> {
     {
         let mut left = count;
         'rows: while left > 0 {
-            let row = self.row(left);
+            let row = self.row_len(left);
             lines.add(self.line())?;
-            self.pass(row);
+            self.pass_row(row);
             left -= row;
         }
         Ok(())
     }
 
+    /// Goes past marks of which none but the last is an LF, and adds their lines to a set, with a look at splices alone. Its one
+    /// error is want of memory, after which both may be used on, and no more is said of them.
+    pub fn pass_row_counted(&mut self, count: usize, lines: &mut Lines) -> Result<(), NoMemory>
+        requires within { count ≤ length self.old }
+        requires plain { (k : ℕ) → k + 1 < count → is_line_feed (slice_index (bytes_of self.old) k) ≡ false }
+        ensures passed { OnOk result (self.new ≡ drop count self.old) }
+        ensures counted { OnOk result (lines.new ≡ with_lines (take count self.old) lines.old) }
+    {
+        let mut left = count;
+        'parts: while left > 0 {
+            let part = self.plain_row_len(left);
+            lines.add(self.line())?;
+            self.pass_row(part);
+            left -= part;
+        }
+        Ok(())
+    }
+
+    /// How many of the first marks that are left stand before the next splice, up to a number of marks of which none but the last
+    /// is an LF.
+    fn plain_row_len(&self, most: usize) -> usize
+        requires full { 0 < most }
+        requires within { most ≤ length self.now }
+        requires plain { (k : ℕ) → k + 1 < most → is_line_feed (slice_index (bytes_of self.now) k) ≡ false }
+        ensures within { (0 < result) × (result ≤ most) }
+        ensures one_line { (set : List ℕ) → with_lines (take result self.now) set ≡ with_line (first_line self.now) set }
+    {
+        marks_to_splice(self.splices, self.at, most)
+    }
+
     /// How many of the first marks that are left, up to a number, stand on the line of the first one.
-    fn row(&self, most: usize) -> usize
+    fn row_len(&self, most: usize) -> usize
         requires full { 0 < most }
         requires within { most ≤ length self.now }
         ensures within { (0 < result) × (result ≤ most) }
+        ensures plain { (k : ℕ) → k + 1 < result → is_line_feed (slice_index (bytes_of self.now) k) ≡ false }
         ensures one_line { (set : List ℕ) → with_lines (take result self.now) set ≡ with_line (first_line self.now) set }
     {
         let reach = marks_to_splice(self.splices, self.at, most);
