@@ -60,12 +60,12 @@ low (Token Other) b h =
     inr (⊎_elim (λ e. let f = quote_range b e in omega arith) (stray_low b) (or_cases (is_quote b) (is_stray (b ∷ [])) h))
 
 -- what the forms of quotes begin with
-quoted_head : (q : ℕ) (bs : List ℕ) → is_quoted q bs ≡ true → (0 < length bs) × (get_or bs 0 0 ≡ q)
+pub quoted_head : (q : ℕ) (bs : List ℕ) → is_quoted q bs ≡ true → (0 < length bs) × (get_or bs 0 0 ≡ q)
 unfolding is_quoted
 quoted_head q [] h = absurd (false≢true h)
 quoted_head q (b ∷ bs) h = (omega arith, eqb-true b q (and_parts (b == q) (closes q bs) h).0)
 
-char_parts : (b : ℕ) (bs : List ℕ) → is_character (b ∷ bs) ≡ true → ((b ≡ 39) × (closes 39 bs ≡ true)) ⊎ ((is_prefix_letter b ≡ true) × (0 < length bs) × (get_or bs 0 0 ≡ 39))
+pub char_parts : (b : ℕ) (bs : List ℕ) → is_character (b ∷ bs) ≡ true → ((b ≡ 39) × (closes 39 bs ≡ true)) ⊎ ((is_prefix_letter b ≡ true) × (0 < length bs) × (get_or bs 0 0 ≡ 39))
 unfolding is_character is_quoted
 char_parts b bs h =
     ⊎_elim (λ e. let p = and_parts (b == 39) (closes 39 bs) e in inl (eqb-true b 39 p.0, p.1))
@@ -73,11 +73,11 @@ char_parts b bs h =
     (or_cases ((b == 39) && closes 39 bs) (is_prefix_letter b && is_quoted 39 bs) h)
 
 -- what a string begins with: a quote, or a letter and a quote, or u8 and a quote
-abbrev StringHead : ℕ → List ℕ → Type 0
+abbrev pub StringHead : ℕ → List ℕ → Type 0
 StringHead b bs =
     ((is_prefix_letter b ≡ true) × (0 < length bs) × (get_or bs 0 0 ≡ 34)) ⊎ ((b ≡ 117) × (get_or bs 0 0 ≡ 56) × (0 < length (drop 1 bs)) × (get_or (drop 1 bs) 0 0 ≡ 34))
 
-string_parts : (b : ℕ) (bs : List ℕ) → is_string (b ∷ bs) ≡ true → ((b ≡ 34) × (closes 34 bs ≡ true)) ⊎ StringHead b bs
+pub string_parts : (b : ℕ) (bs : List ℕ) → is_string (b ∷ bs) ≡ true → ((b ≡ 34) × (closes 34 bs ≡ true)) ⊎ StringHead b bs
 unfolding is_string is_quoted
 string_parts b bs h =
     let first : Bool = (b == 34) && closes 34 bs in

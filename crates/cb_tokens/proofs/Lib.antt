@@ -14,6 +14,9 @@ pub mod Reading
 pub mod Lines
 pub mod Alike
 pub mod OneCut
+pub mod Stretches
+pub mod Feeds
+pub mod Flags
 pub mod MarksLeft
 pub mod Decided
 pub mod OneToken

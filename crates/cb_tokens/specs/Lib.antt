@@ -3,4 +3,5 @@ pub mod Cut
 pub mod Logical
 pub mod Classes
 pub mod Scan
+pub mod Plain
 pub mod Whole

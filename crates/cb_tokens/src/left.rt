@@ -7,7 +7,8 @@ ghost use Rattle.cb_tokens.specs.Whole.{EndsAs, byte_of};
 
 use crate::number::continues_number;
 use crate::punctuator::{is_pair, is_quadruple, is_single, is_triple};
-use crate::runs::{is_line_feed, is_name_byte};
+use crate::runs::is_line_feed;
+use crate::table::is_name_byte;
 use cb_lines::{Mark, Marker};
 
 /// How all that is left of a quote ends.

@@ -10,9 +10,11 @@ mod left;
 mod lexed;
 mod lexing;
 mod number;
+mod plain;
 mod punctuator;
 mod quote;
 mod runs;
+mod table;
 #[cfg(test)]
 mod tests;
 mod token;
@@ -23,5 +25,6 @@ pub use first::{First, first_piece};
 pub use laws::one_cut;
 pub use lexed::Lexed;
 pub use lexing::tokens;
+pub use plain::{Stretch, pieces_end_with_lines, plain_stretch, white_front};
 pub use token::{PieceKind, Token, TokenKind};
 pub use whole::one_token;

@@ -3,7 +3,8 @@ ghost use Rattle.std.specs.Prelude.{◌≡◌};
 ghost use Rattle.cb_tokens.specs.Forms.{continues_number, is_number_rest};
 ghost use Rattle.cb_tokens.specs.Scan.{IsLongest};
 
-use crate::runs::{byte_at, is_name_byte};
+use crate::runs::byte_at;
+use crate::table::is_name_byte;
 
 /// Whether a number goes on over a byte between its neighbours, of which `after` is 0 where there is none.
 #[tactic(auto, unfolding(crate::specs::Forms::continues_number))]

@@ -43,6 +43,10 @@ pub(crate) fn quote_end(quote: u8, bytes: &[u8]) -> QuoteEnd
         if is_line_feed(byte) {
             return QuoteEnd::Unclosed(n);
         }
+        if byte != b'\\' {
+            n += 1;
+            continue;
+        }
         n += quote_step(bytes, n);
     }
     QuoteEnd::Unclosed(n)

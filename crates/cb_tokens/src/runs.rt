@@ -3,6 +3,8 @@ ghost use Rattle.std.specs.Prelude.{◌≡◌, ◌≤◌, not, length, drop, sli
 ghost use Rattle.std.specs.List.{prefix_len};
 ghost use Rattle.cb_tokens.specs.Forms.{is_white, is_name_byte, is_line_feed};
 
+use crate::table::{is_name_byte, is_white};
+
 /// The byte at an index, or 0 past the end.
 #[inline]
 pub(crate) fn byte_at(bytes: &[u8], index: usize) -> u8
@@ -18,24 +20,6 @@ pub(crate) fn behind(bytes: &[u8], count: usize) -> &[u8]
     ensures { result.now ≡ drop count bytes.now }
 {
     &bytes[count..]
-}
-
-/// Whether it is white.
-#[inline]
-#[tactic(auto, unfolding(crate::specs::Forms::is_white))]
-fn is_white(byte: u8) -> bool
-    ensures { result ≡ is_white byte }
-{
-    matches!(byte, b' ' | b'\t' | 0x0b | 0x0c | b'\r')
-}
-
-/// Whether an identifier goes on with it.
-#[inline]
-#[tactic(auto, unfolding(crate::specs::Forms::is_name_byte, crate::specs::Forms::is_name_start))]
-pub(crate) fn is_name_byte(byte: u8) -> bool
-    ensures { result ≡ is_name_byte byte }
-{
-    matches!(byte, b'a'..=b'z' | b'A'..=b'Z' | b'_' | b'0'..=b'9' | b'$' | 0x80..=0xff)
 }
 
 /// Whether it ends a line.

@@ -1,4 +1,5 @@
-use Rattle.std.proofs.Common.{ℕ, ◌+◌, ◌≤◌, length, sym, subst, arith, ne_eqb}
+use Rattle.std.proofs.Common.{◌≡◌, ℕ, ◌+◌, ◌≤◌, ◌==◌, List, false, length, get_or, refl, sym, subst, arith, ne_eqb}
+use Rattle.cb_tokens.specs.Scan.{quote_step}
 use Rattle.cb_tokens.proofs.Quotes.{QuoteAhead, ahead_start, ahead_closed, ahead_feed, ahead_step, ahead_end}
 use Rattle.cb_tokens.proofs.quote.quote_end.Goals as goal
 
@@ -22,3 +23,14 @@ bytes-preserved c =
 
 pub returns : goal.returns
 returns c = ahead_end c.args.quote c.args.bytes.now c.bytes.n c.requires c.bytes-test.false c.bytes.invariant.1
+
+-- the step over a byte that is no backslash
+one_step : (xs : List ℕ) (n : ℕ) → (get_or xs n 0 == 92) ≡ false → quote_step xs n ≡ 1
+one_step xs n h = rw h refl
+
+pub bytes-preserved-then-byte-ne92 : goal.bytes-preserved-then-byte-ne92
+bytes-preserved-then-byte-ne92 c =
+    let P : ℕ → Type 0 =
+    λ k. (c.bytes.n + k ≤ length c.args.bytes.now) × QuoteAhead c.args.quote c.args.bytes.now (c.bytes.n + k) in
+    subst P (one_step c.args.bytes.now c.bytes.n (ne_eqb _ _ c.if-byte-ne92.true))
+    (ahead_step c.args.quote c.args.bytes.now c.bytes.n c.requires c.bytes-test.true (ne_eqb _ _ c.if-byte-quote.false) (cc) c.bytes.invariant.1)
