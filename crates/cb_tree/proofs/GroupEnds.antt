@@ -1,5 +1,5 @@
 -- The end of the group that a node begins, in the table.
-use Rattle.std.proofs.Common.{◌≡◌, ℕ, ◌+◌, ◌-◌, ◌<◌, ◌≤◌, List, [], ◌∷◌, length, drop, get_or, Option, None, Some, MatchOption, Bool, true, false, ◌==◌, length-drop, if◌then◌else◌, refl, ap, sym, ◌∙◌, add-one, arith}
+use Rattle.std.proofs.Common.{◌≡◌, ℕ, ◌+◌, ◌-◌, ◌<◌, ◌≤◌, List, [], ◌∷◌, length, drop, get_or, Option, None, Some, MatchOption, Bool, true, false, ◌==◌, length-drop, if◌then◌else◌, refl, ap, sym, ◌∙◌, arith}
 use Prim.Native.Nat.{zero, suc}
 use Rattle.std.specs.Prelude.{slice_get}
 use Rattle.cb_tree.specs.declared.node.NodeKind.{NodeKind}

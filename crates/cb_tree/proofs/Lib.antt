@@ -1,5 +1,6 @@
 pub mod Spans
 pub mod Stack
+pub mod Stretches
 pub mod LastByte
 pub mod Briefs
 pub mod BriefSteps
@@ -17,3 +18,4 @@ pub mod GroupEnds
 pub mod Nested
 pub mod FrameSteps
 pub mod NestSteps
+pub mod EveryEnd

@@ -1,6 +1,6 @@
 -- The nodes of a sound source, placed one after another.
-use Rattle.std.proofs.Common.{◌≡◌, ℕ, ◌+◌, ◌-◌, ◌<◌, ◌≤◌, ◌==◌, Bool, true, false, if◌then◌else◌, List, [], ◌∷◌, ◌++◌, length, take, drop, get_or, map, Option, None, Some, Result, Ok, Err, refl, ap, sym, subst, ◌∙◌, append_assoc, add-one, drop-cons, arith}
-use Prim.Native.Nat.{zero, suc}
+use Rattle.std.proofs.Common.{◌≡◌, ℕ, ◌+◌, ◌<◌, ◌≤◌, ◌==◌, Bool, true, false, if◌then◌else◌, List, [], ◌∷◌, ◌++◌, length, take, drop, get_or, map, None, Result, Ok, Err, refl, ap, sym, subst, ◌∙◌, add-one, drop-cons, arith}
+use Prim.Native.Nat.{suc}
 use Rattle.std.proofs.lemmas.List.{take_more, take_all, drop_all, map-append, length-map, length-take-le}
 use Rattle.cb_tree.specs.declared.fault.BadSource.{BadSource}
 use Rattle.cb_tree.specs.declared.node.NodeData.{NodeData}
@@ -10,7 +10,7 @@ use Rattle.cb_tree.specs.declared.sections.OpenSection.{OpenSection}
 use Rattle.cb_tree.specs.declared.nesting.Frame.{Frame}
 use Rattle.cb_tree.specs.declared.nesting.Nesting.{Nesting}
 use Rattle.cb_tree.specs.Nodes.{Node, node_line}
-use Rattle.cb_tree.specs.Sections.{opened, continued, turned, closed, sections_after, fault_at_end, fault_or, first_fault}
+use Rattle.cb_tree.specs.Sections.{sections_after, fault_at_end, fault_or, first_fault}
 use Rattle.cb_tree.specs.Groups.{kinds_of}
 use Rattle.cb_tree.specs.Reads.{node_value}
 use Rattle.cb_tree.specs.Nesting.{Placed, role_of, places_from, places_of}
@@ -69,7 +69,7 @@ goes_by : (r : Result (List OpenSection) BadSource) (kind : NodeKind) (line : �
 goes_by (Err fault) kind line nodes before e h = absurd (cc)
 goes_by (Ok after) kind line nodes before e h = record { after = after; stands = stands kind line before after e; no_fault = h }
 
-goes : (n : Node) (nodes : List Node) (before : List OpenSection) → first_fault (n ∷ nodes) before ≡ None → Goes n.kind nodes before
+pub goes : (n : Node) (nodes : List Node) (before : List OpenSection) → first_fault (n ∷ nodes) before ≡ None → Goes n.kind nodes before
 goes n nodes before h = goes_by (sections_after n.kind (node_line n) before) n.kind (node_line n) nodes before refl h
 
 -- one more place

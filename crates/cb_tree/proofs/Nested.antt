@@ -1,5 +1,5 @@
 -- The nodes of parts and groups.
-use Rattle.std.proofs.Common.{◌≡◌, ℕ, List, [], ◌∷◌, ◌++◌, map, refl, ap, sym, ◌∙◌}
+use Rattle.std.proofs.Common.{◌≡◌, ℕ, List, [], ◌∷◌, ◌++◌, map, refl, ap, ◌∙◌}
 use Rattle.cb_tree.specs.declared.part.Part.{Part}
 use Rattle.cb_tree.specs.declared.part.Group.{Group}
 use Rattle.cb_tree.specs.declared.part.Part.TheViews.{roll-Group}

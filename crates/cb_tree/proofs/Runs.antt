@@ -165,7 +165,7 @@ one_line_by true same line l ls h = omega arith
 one_line_by false true line l ls h = omega arith
 one_line_by false false line l ls h = omega arith
 
-one_line : (line : ℕ) (set : List ℕ) → length (with_line line set) ≤ length set + 1
+pub one_line : (line : ℕ) (set : List ℕ) → length (with_line line set) ≤ length set + 1
 one_line line [] = omega arith
 one_line line (l ∷ ls) = one_line_by (nat_lt line l) (line == l) line l ls (one_line line ls)
 

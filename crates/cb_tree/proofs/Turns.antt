@@ -1,12 +1,12 @@
 -- The ends of groups, from the last node to the first.
-use Rattle.std.proofs.Common.{◌≡◌, ℕ, ◌+◌, ◌-◌, ◌<◌, ◌==◌, Bool, true, false, if◌then◌else◌, List, [], ◌∷◌, ◌++◌, length, drop, get_or, map, Option, Some, None, refl, ap, sym, ◌∙◌, ◌≤◌, subst, drop-cons, add-one, ne_eqb, arith}
+use Rattle.std.proofs.Common.{◌≡◌, ℕ, ◌+◌, ◌-◌, ◌<◌, ◌==◌, false, if◌then◌else◌, List, [], ◌∷◌, length, drop, get_or, map, Option, Some, None, refl, ap, sym, ◌∙◌, ◌≤◌, subst, drop-cons, add-one, ne_eqb, arith}
 use Prim.Native.Nat.{zero, suc}
 use Rattle.std.proofs.lemmas.List.{drop_all}
 use Rattle.cb_tree.specs.declared.node.NodeData.{NodeData}
 use Rattle.cb_tree.specs.Reads.{node_value}
 use Rattle.cb_tree.specs.declared.node.NodeKind.{NodeKind}
 use Rattle.cb_tree.specs.declared.node.NodeKind.TheVariants.{Text, If, Ifdef, Ifndef, Elif, Else, Endif, Define, Undef, Include, Once, Error, Other}
-use Rattle.cb_tree.specs.Groups.{turn_at, next_turn, ends_from, opens_group, kinds_of}
+use Rattle.cb_tree.specs.Groups.{next_turn, ends_from, kinds_of}
 use Rattle.cb_tree.specs.Trees.{front_of, end_by, turns_with}
 
 -- the element at a depth
@@ -26,7 +26,7 @@ behind_first : (turns : List ℕ) (depth : ℕ) → at turns (suc depth) ≡ at 
 behind_first [] depth = refl
 behind_first (x ∷ xs) depth = refl
 
-inner : (depth : ℕ) → (suc depth == 0) ≡ false
+pub inner : (depth : ℕ) → (suc depth == 0) ≡ false
 inner depth = ne_eqb (suc depth) 0 (omega arith)
 
 opened : (kinds : List NodeKind) (node : ℕ) (turns : List ℕ) → AreTurns kinds (node + 1) turns

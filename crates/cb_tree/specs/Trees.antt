@@ -7,11 +7,13 @@ use Rattle.cb_tree.specs.declared.part.Part.{Part}
 use Rattle.cb_tree.specs.Nesting.{places_of, places_from}
 use Rattle.cb_tree.specs.Groups.{opens_group, kinds_of, ends_from}
 use Rattle.cb_tree.specs.Nodes.{total_lines}
+use Rattle.cb_tree.specs.Sections.{first_fault}
 use Rattle.cb_tree.specs.Reads.{node_value}
 
--- a tree's nodes, the number of their counted lines, the ends of the groups that they begin, and their nesting
+-- a tree's nodes, which have no fault, the number of their counted lines, the ends of the groups that they begin, and their nesting
 pub record IsKept (nodes : List NodeData) (total : ℕ) (ends : List (Option ℕ)) (parts : List Part) : Type 0 where
   pub few : length nodes ≤ 4194304
+  pub no_fault : first_fault (map node_value nodes) [] ≡ None
   pub total_is : total ≡ total_lines (map node_value nodes)
   pub ends_are : ends ≡ ends_from 1 (kinds_of (map node_value nodes))
   pub parts_are : places_of parts ≡ places_from 1 (kinds_of (map node_value nodes))

@@ -10,7 +10,7 @@ ghost use Rattle.cb_tree.specs.Reads.{Reads, ReadsDirective, DirectiveGoes, Tell
 use crate::fault::BuildFault;
 use crate::kind::kind_of;
 use crate::node::NodeData;
-use crate::reading::{Start, look_ahead};
+use crate::reading::{Start, look_ahead, pass_counted};
 use cb_lines::{Lines, Walk};
 use cb_paths::{Bytes, NoMemory};
 use cb_tokens::{PieceKind, Token, TokenKind};
@@ -62,7 +62,11 @@ fn pass_piece(
             }
             PieceKind::Token(kind) => {
                 keep_token(alloc, tokens, kind, &walk.rest()[..piece.len], spaced)?;
-                walk.pass_counted(piece.len, counted)?;
+                let token = Start {
+                    kind,
+                    len: piece.len,
+                };
+                pass_counted(walk, token, counted)?;
                 Ok(Some(false))
             }
         },
@@ -91,7 +95,7 @@ pub(crate) fn read_directive(
         &walk.rest()[..token.len],
         false,
     )?;
-    walk.pass_counted(token.len, &mut counted)?;
+    pass_counted(walk, token, &mut counted)?;
     let mut spaced = false;
     'pieces: loop {
         match pass_piece(alloc, walk, &mut tokens, &mut counted, spaced)? {

@@ -16,6 +16,7 @@ mod sections;
 mod sequence;
 mod size;
 mod skeleton;
+mod stretch;
 mod tree;
 
 pub use building::{build, one_reading};

@@ -1,11 +1,15 @@
 //! The nodes of a source, read from its marks one after another.
-ghost use Rattle.std.specs.Prelude.{◌≡◌, ◌<◌, [], ◌∷◌, false, length, MatchOption, MatchResult, OnOk};
+ghost use Rattle.std.specs.Prelude.{◌≡◌, ◌<◌, [], ◌∷◌, false, length, take, drop, MatchOption, MatchResult, OnOk};
+ghost use Rattle.cb_lines.specs.Marks.{bytes_of};
+ghost use Rattle.cb_lines.specs.Lines.{with_lines};
+ghost use Rattle.cb_tokens.specs.Cut.{StandsFirst};
 ghost use Rattle.cb_tokens.specs.Logical.{is_token};
 ghost use Rattle.cb_tree.specs.Reads.{Reads, Tells, StandsNext, StartsNext};
 
 use crate::fault::{BadSource, BuildFault, SourceKind};
-use cb_lines::Walk;
-use cb_tokens::{First, PieceKind, TokenKind, first_piece};
+use cb_lines::{Lines, Walk};
+use cb_paths::NoMemory;
+use cb_tokens::{First, PieceKind, TokenKind, first_piece, pieces_end_with_lines};
 
 /// The piece that stands next.
 #[derive(Clone, Copy)]
@@ -49,6 +53,20 @@ pub(crate) fn look_ahead(walk: &Walk) -> Result<Option<Ahead>, BuildFault>
             line: walk.line(),
         })),
     }
+}
+
+/// Goes past a token and adds its lines.
+pub(crate) fn pass_counted(
+    walk: &mut Walk,
+    token: Start,
+    counted: &mut Lines,
+) -> Result<(), NoMemory>
+    requires { StandsFirst (bytes_of walk.old) (First.Piece (PieceKind.Token token.kind) token.len) }
+    ensures passed { OnOk result (walk.new ≡ drop token.len walk.old) }
+    ensures counted { OnOk result (counted.new ≡ with_lines (take token.len walk.old) counted.old) }
+{
+    pieces_end_with_lines();
+    walk.pass_row_counted(token.len, counted)
 }
 
 /// The form of a token, none of another piece.

@@ -10,7 +10,8 @@ ghost use Rattle.cb_tree.specs.Reads.{Reads, ReadsRun, RunGoes, Tells, text_node
 
 use crate::fault::BuildFault;
 use crate::kind::is_hash_text;
-use crate::reading::{Place, Start, look_ahead};
+use crate::reading::{Place, Start, look_ahead, pass_counted};
+use crate::stretch::pass_stretch;
 use cb_lines::{Lines, Walk};
 use cb_tokens::PieceKind;
 use std::alloc::Global;
@@ -44,7 +45,7 @@ fn pass_token(
     if ends_before(place, text) {
         return Ok(None);
     }
-    walk.pass_counted(token.len, counted)?;
+    pass_counted(walk, token, counted)?;
     Ok(Some(Place::InLine))
 }
 
@@ -95,9 +96,11 @@ pub(crate) fn read_run(alloc: Global, walk: &mut Walk, token: Start) -> Result<L
     ensures tells { IfErr result (Tells walk.old) }
 {
     let mut counted = Lines::new(alloc);
-    walk.pass_counted(token.len, &mut counted)?;
+    pass_counted(walk, token, &mut counted)?;
     let mut place = Place::InLine;
+    let mut most = usize::MAX;
     'pieces: loop {
+        place = pass_stretch(walk, &mut counted, place, &mut most)?;
         match pass_piece(walk, &mut counted, place)? {
             Some(next) => place = next,
             None => return Ok(counted),

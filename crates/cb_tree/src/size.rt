@@ -1,5 +1,6 @@
 //! The limits on the size of a source.
-ghost use Rattle.std.specs.Prelude.{◌≡◌, ◌+◌, ◌≤◌, ◌<◌, length, MatchResult};
+ghost use Rattle.std.specs.Prelude.{◌≡◌, ◌+◌, ◌≤◌, ◌<◌, length, count_by, MatchResult};
+ghost use Rattle.cb_lines.specs.Marks.{is_line_feed};
 ghost use Rattle.cb_tree.specs.Sound.{IsWithinLimits, ends_open, line_count};
 ghost use Rattle.cb_tree.specs.Reads.{IsReadAs};
 
@@ -14,12 +15,24 @@ fn ends_open(source: &[u8]) -> bool
     !source.is_empty() && source[source.len() - 1] != b'\n'
 }
 
+/// The number of the line ends.
+fn line_end_count(source: &[u8]) -> u32
+    requires { length source.now ≤ 4194304 }
+    ensures { result ≡ count_by is_line_feed source.now }
+{
+    let mut count = 0u32;
+    for byte in source {
+        count += u32::from(*byte == b'\n');
+    }
+    count
+}
+
 /// The number of the physical lines.
 fn line_count(source: &[u8]) -> usize
     requires { length source.now ≤ 4194304 }
     ensures { result ≡ line_count source.now }
 {
-    let ended = source.iter().filter(|byte| **byte == b'\n').count();
+    let ended = line_end_count(source) as usize;
     if ends_open(source) { ended + 1 } else { ended }
 }
 

@@ -1,10 +1,10 @@
 //! The tree of a source.
-ghost use Rattle.std.specs.Prelude.{◌≡◌, ◌<◌, ◌≤◌, ◌-◌, length, slice_get, Some, ◌↔◌, IsTrue, IfSome};
+ghost use Rattle.std.specs.Prelude.{◌≡◌, ◌<◌, ◌≤◌, ◌-◌, length, slice_get, Some, ◌↔◌, IsTrue, IsSome, IfSome, true};
 ghost use Rattle.std.specs.Option.{option_map};
 ghost use Rattle.std.specs.List.{flat_map};
 ghost use Rattle.cb_lines.specs.Lines.{AreMaximal, span_lines};
 ghost use Rattle.cb_tree.specs.Nodes.{node_line, node_rest, first_of, total_lines};
-ghost use Rattle.cb_tree.specs.Groups.{kinds_of, group_end_of};
+ghost use Rattle.cb_tree.specs.Groups.{kinds_of, opens_group, group_end_of};
 ghost use Rattle.cb_tree.specs.Nesting.{places_of, places_from};
 ghost use Rattle.cb_tree.specs.Skeleton.{skeleton};
 
@@ -82,6 +82,7 @@ impl Tree {
     pub fn group_end(&self, node: u32) -> Option<u32>
         requires { (1 ≤ node) × (node ≤ length self.now) }
         ensures end { result ≡ group_end_of (kinds_of self.now) node }
+        ensures every { option_map (λ n. opens_group n.kind) (slice_get self.now (node - 1)) ≡ Some true → IsSome result }
         ensures behind { IfSome result (λ end. (node < end) × (end ≤ length self.now)) }
     {
         let ends = self.ends.as_slice();

@@ -1,4 +1,4 @@
-use Rattle.std.proofs.Common.{◌≡◌, ◌++◌, ◌∷◌, [], length, ap, ◌∙◌, arith, length-append}
+use Rattle.std.proofs.Common.{length, ap, arith, length-append}
 use Rattle.cb_tree.specs.declared.nesting.Frame.{Frame}
 use Rattle.cb_tree.proofs.FrameSteps.{closed}
 use Rattle.cb_tree.proofs.nesting.close_section.Goals as goal

@@ -1,5 +1,5 @@
-use Rattle.std.proofs.Common.{◌≡◌, subst, sym, ap, get_or}
-use Rattle.cb_tree.proofs.NestSteps.{nested_more, may_stand}
+use Rattle.std.proofs.Common.{sym}
+use Rattle.cb_tree.proofs.NestSteps.{nested_more}
 use Rattle.cb_tree.proofs.nesting.nest.Goals as goal
 
 pub loop-i-preserved : goal.loop-i-preserved

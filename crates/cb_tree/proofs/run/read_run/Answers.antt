@@ -15,7 +15,12 @@ pieces-init c =
 pub returns-in_err-next-clause-tells : goal.returns-in_err-next-clause-tells
 returns-in_err-next-clause-tells c =
     let p = err_from_is_err_and c.from_residual-in_err-next.result c.from_residual-in_err-next.ensures.1 in
-    rw (p.1, p.2) (run_tells c.args.walk.now c.pieces.place c.pieces.counted c.pieces.walk c.in_err-next.field-0.0 c.pieces.invariant.0 c.in_err-next.ensures.tells)
+    rw (p.1, p.2) (run_tells c.args.walk.now c.in_ok-place.place c.pass_stretch.new.counted c.pass_stretch.new.walk c.in_err-next.field-0.0 (c.in_ok-place.ensures.goes c.args.walk.now c.pieces.invariant.0) c.in_err-next.ensures.tells)
 
 pub returns-in-None-clause-reads : goal.returns-in-None-clause-reads
-returns-in-None-clause-reads c = (rw c.in-None.is at c.in_ok-next.ensures.goes) c.args.walk.now c.pieces.invariant.0
+returns-in-None-clause-reads c = (rw c.in-None.is at c.in_ok-next.ensures.goes) c.args.walk.now (c.in_ok-place.ensures.goes c.args.walk.now c.pieces.invariant.0)
+
+pub returns-in_err-place-clause-tells : goal.returns-in_err-place-clause-tells
+returns-in_err-place-clause-tells c =
+    let p = err_from_is_err_and c.from_residual-in_err-place.result c.from_residual-in_err-place.ensures.1 in
+    rw (p.1, p.2) (run_tells c.args.walk.now c.pieces.place c.pieces.counted c.pieces.walk c.in_err-place.field-0.0 c.pieces.invariant.0 c.in_err-place.ensures.tells)

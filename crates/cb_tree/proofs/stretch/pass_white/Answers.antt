@@ -1,0 +1,14 @@
+use Rattle.std.proofs.Common.{List, ℕ, sym, subst}
+use Rattle.cb_lines.specs.declared.mark.Mark.{Mark}
+use Rattle.cb_tokens.specs.declared.first.First.TheVariants as first
+use Rattle.cb_tokens.specs.declared.token.PieceKind.TheVariants as kinds
+use Rattle.cb_tokens.specs.Cut.{StandsFirst}
+use Rattle.cb_tree.specs.Reads.{ReadsRun}
+use Rattle.cb_tree.proofs.Runs.{run_white}
+use Rattle.cb_tree.proofs.stretch.pass_white.Goals as goal
+
+pub returns-then-white-gt0-clause-goes : goal.returns-then-white-gt0-clause-goes
+returns-then-white-gt0-clause-goes c = λ ms place counted run.
+    subst (λ (rest : List Mark). ReadsRun ms place counted rest) (sym c.pass_row.ensures)
+    (run_white ms place counted c.args.walk.now c.white_front-white.result
+    (subst (λ (bs : List ℕ). StandsFirst bs (first.Piece kinds.White c.white_front-white.result)) c.rest.ensures (c.white_front-white.ensures.piece c.if-white-gt0.true)) run)
