@@ -32,7 +32,10 @@ fn meaning_in(language: Language, tokens: &[Token], frames: &mut [Frame]) -> Opt
 }
 
 /// The frames that are enough for most conditions.
-const FEW_FRAMES: usize = 128;
+const FEW_FRAMES: usize = 64;
+
+/// The frames that are enough for conditions that are nested more deeply, and still cost little to make.
+const MANY_FRAMES: usize = 256;
 
 /// The frames that are enough for each condition that is not too deep.
 const ALL_FRAMES: usize = 3083;
@@ -44,6 +47,16 @@ fn meaning_in_few(language: Language, tokens: &[Token]) -> Option<Meaning>
     ensures { IsReadAs (symbols language tokens.now) result }
 {
     let mut frames = [Frame::Inside(Prefixes::NONE); FEW_FRAMES];
+    meaning_in(language, tokens, &mut frames)
+}
+
+/// The meaning of a condition that is nested more deeply.
+#[inline(never)]
+fn meaning_in_many(language: Language, tokens: &[Token]) -> Option<Meaning>
+    requires { HasRoom (symbols language tokens.now) MANY_FRAMES }
+    ensures { IsReadAs (symbols language tokens.now) result }
+{
+    let mut frames = [Frame::Inside(Prefixes::NONE); MANY_FRAMES];
     meaning_in(language, tokens, &mut frames)
 }
 
@@ -76,8 +89,11 @@ pub(crate) fn meaning_of(language: Language, tokens: &[Token], nesting: Nesting)
     requires counted { nesting.questions ≡ count_by is_question (symbols language tokens.now) }
     ensures { IsReadAs (symbols language tokens.now) result }
 {
-    if frames_for(nesting) <= FEW_FRAMES {
+    let frames = frames_for(nesting);
+    if frames <= FEW_FRAMES {
         meaning_in_few(language, tokens)
+    } else if frames <= MANY_FRAMES {
+        meaning_in_many(language, tokens)
     } else {
         meaning_in_all(language, tokens)
     }
