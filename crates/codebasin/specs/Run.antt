@@ -1,5 +1,5 @@
 -- What a run reads and writes.
-use Rattle.std.specs.Prelude.{◌≡◌, ℕ, ◌<◌, ◌≤◌, List, length, take, Option, Some, None}
+use Rattle.std.specs.Prelude.{◌≡◌, ℕ, ◌<◌, ◌≤◌, ◌⊎◌, List, length, take, Option, Some, None}
 use Rattle.std.specs.Io.KnownBytes.{Appends, Consumes, Keeps, IsAtEnd}
 use Rattle.codebasin.specs.Words.{job_of}
 use Rattle.codebasin.specs.Texts.{usage_text, read_text}
@@ -23,3 +23,7 @@ pub data Ends (words : List (List ℕ)) (in_old in_new out_old out_new : Option 
   said : (status : ℕ) (text : List ℕ) → Says words in_old in_new status text → Appends out_old out_new text → Ends words in_old in_new out_old out_new status
   cut_off : (status : ℕ) (text : List ℕ) (n : ℕ) → Says words in_old in_new status text → n < length text → Appends out_old out_new (take n text) → Ends words in_old in_new out_old out_new 5
   out_of_memory : Keeps out_old out_new → Ends words in_old in_new out_old out_new 6
+
+-- the status is this one, or that of a failed read, of a failed write or of want of memory (own)
+abbrev pub IsSaid : ℕ → ℕ → Type 0
+IsSaid status result = (result ≡ status) ⊎ ((result ≡ 4) ⊎ ((result ≡ 5) ⊎ (result ≡ 6)))

@@ -1,9 +1,12 @@
 //! One run of the program, from its words and its input to its output and its status.
-ghost use Rattle.std.specs.Prelude.{◌≡◌, map, string_bytes, IfOk, OnOk};
+ghost use Rattle.std.specs.Prelude.{◌≡◌, ℕ, ◌≤◌, List, length, None, Some, map, string_bytes, IfOk};
 ghost use Rattle.cb_outside.specs.Outside.{Rose};
-ghost use Rattle.codebasin.specs.Run.{Says, Ends};
+ghost use Rattle.codebasin.specs.Words.{job_of};
+ghost use Rattle.codebasin.specs.Answers.{Answers};
+ghost use Rattle.codebasin.specs.Run.{Says, Ends, IsSaid};
 
 use crate::answering::{Answer, answer_source};
+use crate::laws::one_answer;
 use crate::texts::{UNREAD, USAGE};
 use crate::words::job_of;
 use cb_outside::{ReadError, Sink, Source, put_all, take_up_to};
@@ -43,7 +46,14 @@ pub fn run<T: AllocGlobal, R: Source, W: Sink>(
     ensures read_failed { result ≡ 4 → Rose (R.faults input.old) (R.faults input.new) }
     ensures write_failed { result ≡ 5 → Rose (W.faults out.old) (W.faults out.new) }
     ensures refused { result ≡ 1 → input.new ≡ input.old }
+
+    // Words that are no command are told so; a command's input that is told and not too long is answered as the definitions say.
+    ensures usage { job_of (map string_bytes words.now) ≡ None → IsSaid 1 result }
+    ensures answer { (names : List (List ℕ)) (source : List ℕ) (status : ℕ) (text : List ℕ)
+        → job_of (map string_bytes words.now) ≡ Some names → R.left input.old ≡ Some source → length source ≤ 4194304
+        → Answers names source status text → IsSaid status result }
 {
+    one_answer();
     match reply(rt.alloc(), words, input) {
         Ok(answer) => match put_all(out, answer.text.as_slice()) {
             Ok(()) => answer.status,
