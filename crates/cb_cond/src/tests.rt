@@ -7,7 +7,7 @@ use std::process::Abort;
 use std::test::Fail;
 
 /// Conditions of C that hold.
-const HOLDS: [&str; 130] = [
+const HOLDS: [&str; 139] = [
     "1",
     "! 0",
     "- 1 > 0u",
@@ -138,6 +138,15 @@ const HOLDS: [&str; 130] = [
     "! name",
     "! true",
     "! and",
+    "( 2u * - 1 ) > 0",
+    "- 1 + 0u > 0",
+    "- 1 != 1u",
+    "- ( + 1u ) > 0",
+    "- ( 1u && 1u ) < 0",
+    "- ( 0u || 1u ) < 0",
+    "- ( 1u == 1u ) < 0",
+    "0xffffffffffffffff == - 1",
+    "0b1111111111111111111111111111111111111111111111111111111111111111 == - 1",
 ];
 
 /// Conditions of C that do not hold.
@@ -292,7 +301,7 @@ const SHIFT: [&str; 9] = [
 ];
 
 /// Conditions with an integer of 2^64 or more.
-const TOO_WIDE: [&str; 9] = [
+const TOO_WIDE: [&str; 11] = [
     "18446744073709551616",
     "0x10000000000000000",
     "02000000000000000000000",
@@ -302,6 +311,8 @@ const TOO_WIDE: [&str; 9] = [
     "18446744073709551616 )",
     "1 / 0 + 18446744073709551616",
     "1 ? 1 : 99999999999999999999999999",
+    "1 << 64 + 18446744073709551616",
+    "18446744073709551616 >> 64",
 ];
 
 /// The form of a token, by its first byte.
@@ -418,6 +429,10 @@ fn depth_is_limited(rt: HostRuntime) -> Result<(), Fail> {
         ("1 / 0", 1),
     )?;
     assert_eq!(rt; wide, Err(BadCondition::TooDeep));
+    for behind in ["", "1 1", "1 / 0", "1 << 64"] {
+        let deep = nested(rt.alloc(), ("(", 257), (behind, 1), (")", 257))?;
+        assert_eq!(rt; deep, Err(BadCondition::TooDeep));
+    }
     let closed_first = nested(rt.alloc(), (")", 1), ("(", 257), ("1", 1))?;
     assert_eq!(rt; closed_first, Err(BadCondition::Malformed));
     let longest = nested(rt.alloc(), ("0 ? 0 :", 256), ("1", 1), ("", 0))?;
