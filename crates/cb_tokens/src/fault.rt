@@ -1,12 +1,15 @@
 //! Why a source has no tokens.
 use std::alloc::{AllocError, AllocFailed};
+use thiserror::Error;
 
 /// Why a source is not cut into tokens.
-#[derive(Clone, Copy, Debug, PartialEq, Eq)]
+#[derive(Clone, Copy, Debug, PartialEq, Eq, Error)]
 pub enum LexFault {
     /// A block comment has no end; the line where it begins.
+    #[error("the comment that begins on line {0} has no end")]
     OpenComment(u32),
     /// There was not enough memory.
+    #[error("out of memory")]
     NoMemory,
 }
 

@@ -36,8 +36,8 @@ pub enum PieceKind {
 pub struct Token {
     /// Its form.
     pub kind: TokenKind,
-    /// Its bytes, without the splices that stood in it.
-    pub text: Bytes,
     /// Whether white space or a comment stands between it and the token before it on its logical line.
     pub spaced: bool,
+    /// Its bytes, without the splices that stood in it.
+    pub text: Bytes,
 }

@@ -21,6 +21,10 @@ use Rattle.cb_tree.proofs.Briefs.{in_brief}
 use Rattle.cb_tree.proofs.BriefSteps.{directive_begins, directive_goes, directive_ends}
 use Rattle.cb_tree.proofs.Runs.{counted_more, same_text}
 
+-- a token behind those of the line, which stand behind others
+pub kept_behind : (all before own : List Token) (t : Token) → all ≡ before ++ own → all ++ t ∷ [] ≡ before ++ (own ++ t ∷ [])
+kept_behind all before own t e = ap (λ (ts : List Token). ts ++ t ∷ []) e ∙ append_assoc before own (t ∷ [])
+
 -- a piece of a directive line
 directive_piece : (ms : List Mark) (tokens : List Token) (spaced : Bool) (counted : List ℕ) (rest : List Mark) (k : PieceKind) (n : ℕ)
     → StandsFirst (bytes_of rest) (first.Piece k n) → ReadsDirective ms tokens spaced counted rest

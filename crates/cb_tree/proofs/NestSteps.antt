@@ -1,9 +1,10 @@
 -- The nodes of a sound source, placed one after another.
-use Rattle.std.proofs.Common.{◌≡◌, ℕ, ◌+◌, ◌<◌, ◌≤◌, ◌==◌, Bool, true, false, if◌then◌else◌, List, [], ◌∷◌, ◌++◌, length, take, drop, get_or, map, None, Result, Ok, Err, refl, ap, sym, subst, ◌∙◌, add-one, drop-cons, arith}
-use Prim.Native.Nat.{suc}
+use Rattle.std.proofs.Common.{◌≡◌, ℕ, ◌+◌, ◌<◌, ◌≤◌, ◌==◌, Bool, true, false, if◌then◌else◌, List, [], ◌∷◌, ◌++◌, length, take, drop, get_or, None, Some, Result, Ok, Err, refl, ap, sym, subst, ◌∙◌, add-one, drop-cons, arith}
+use Prim.Native.Nat.{zero, suc}
+use Rattle.std.specs.Prelude.{slice_get}
+use Rattle.std.specs.Option.{option_map}
 use Rattle.std.proofs.lemmas.List.{take_more, take_all, drop_all, map-append, length-map, length-take-le}
 use Rattle.cb_tree.specs.declared.fault.BadSource.{BadSource}
-use Rattle.cb_tree.specs.declared.node.NodeData.{NodeData}
 use Rattle.cb_tree.specs.declared.node.NodeKind.{NodeKind}
 use Rattle.cb_tree.specs.declared.node.NodeKind.TheVariants.{Text, If, Ifdef, Ifndef, Elif, Else, Endif, Define, Undef, Include, Once, Error, Other}
 use Rattle.cb_tree.specs.declared.sections.OpenSection.{OpenSection}
@@ -12,7 +13,6 @@ use Rattle.cb_tree.specs.declared.nesting.Nesting.{Nesting}
 use Rattle.cb_tree.specs.Nodes.{Node, node_line}
 use Rattle.cb_tree.specs.Sections.{sections_after, fault_at_end, fault_or, first_fault}
 use Rattle.cb_tree.specs.Groups.{kinds_of}
-use Rattle.cb_tree.specs.Reads.{node_value}
 use Rattle.cb_tree.specs.Nesting.{Placed, role_of, places_from, places_of}
 use Rattle.cb_tree.specs.Frames.{MayStand, depth_after, IsPlaced, nested_places, frames_places}
 
@@ -83,14 +83,28 @@ places-push node (k ∷ ks) kind =
     ap (λ (l : List Placed). record { role = role_of k; node = node } ∷ l)
     (places-push (node + 1) ks kind ∙ ap (λ n. places_from (node + 1) ks ++ record { role = role_of kind; node = n } ∷ []) e)
 
+-- the node of this kind at a place
+record NodeAt (nodes : List Node) (i : ℕ) (kind : NodeKind) : Type 0 where
+  node : Node
+  within : i < length nodes
+  is : node ≡ get_or nodes i node
+  kind_is : node.kind ≡ kind
+
+node_at : (nodes : List Node) (i : ℕ) (kind : NodeKind) → option_map (λ (n : Node). n.kind) (slice_get nodes i) ≡ Some kind → NodeAt nodes i kind
+node_at [] i kind e = absurd (cc)
+node_at (n ∷ ns) zero kind e = record { node = n; within = omega arith; is = refl; kind_is = cc }
+node_at (n ∷ ns) (suc i) kind e =
+    let w = node_at ns i kind e in
+    record { node = w.node; within = omega (arith, w.within); is = w.is; kind_is = w.kind_is }
+
 -- the first nodes are placed, and the rest have no fault
-pub record Nested (nodes : List NodeData) (i : ℕ) (nesting : Nesting) : Type 0 where
+pub record Nested (nodes : List Node) (i : ℕ) (nesting : Nesting) : Type 0 where
   pub sections : List OpenSection
   pub depth : length sections ≡ length nesting.frames.items
-  pub places : nested_places nesting ≡ places_from 1 (kinds_of (map node_value (take i nodes)))
-  pub no_fault : first_fault (map node_value (drop i nodes)) sections ≡ None
+  pub places : nested_places nesting ≡ places_from 1 (kinds_of (take i nodes))
+  pub no_fault : first_fault (drop i nodes) sections ≡ None
 
-pub nested_none : (nodes : List NodeData) (nesting : Nesting) → nesting.frames.items ≡ [] → nesting.parts ≡ [] → first_fault (map node_value nodes) [] ≡ None → Nested nodes 0 nesting
+pub nested_none : (nodes : List Node) (nesting : Nesting) → nesting.frames.items ≡ [] → nesting.parts ≡ [] → first_fault nodes [] ≡ None → Nested nodes 0 nesting
 nested_none nodes nesting e f h = record {
   sections = [];
   depth = rw e refl;
@@ -98,40 +112,48 @@ nested_none nodes nesting e f h = record {
   no_fault = h;
 }
 
-split : (nodes : List NodeData) (i : ℕ) (n : NodeData) → i < length nodes → n ≡ get_or nodes i n → drop i nodes ≡ n ∷ drop (i + 1) nodes
+split : (nodes : List Node) (i : ℕ) (n : Node) → i < length nodes → n ≡ get_or nodes i n → drop i nodes ≡ n ∷ drop (i + 1) nodes
 split nodes i n h e = rw (add-one i) (drop-cons nodes i n h ∙ ap (λ x. x ∷ drop (suc i) nodes) (sym e))
 
-step : (nodes : List NodeData) (i : ℕ) (n : NodeData) (nesting : Nesting) → i < length nodes → n ≡ get_or nodes i n → (a : Nested nodes i nesting)
-    → Goes n.kind (map node_value (drop (i + 1) nodes)) a.sections
+step : (nodes : List Node) (i : ℕ) (n : Node) (nesting : Nesting) → i < length nodes → n ≡ get_or nodes i n → (a : Nested nodes i nesting)
+    → Goes n.kind (drop (i + 1) nodes) a.sections
 step nodes i n nesting h e a =
-    goes (node_value n) (map node_value (drop (i + 1) nodes)) a.sections
-    (ap (λ (l : List NodeData). first_fault (map node_value l) a.sections) (sym (split nodes i n h e)) ∙ a.no_fault)
+    goes n (drop (i + 1) nodes) a.sections
+    (ap (λ (l : List Node). first_fault l a.sections) (sym (split nodes i n h e)) ∙ a.no_fault)
 
-pub may_stand : (nodes : List NodeData) (i : ℕ) (n : NodeData) (nesting : Nesting) → i < length nodes → n ≡ get_or nodes i n → Nested nodes i nesting
-    → MayStand (role_of n.kind) (length nesting.frames.items)
-may_stand nodes i n nesting h e a = subst (MayStand (role_of n.kind)) a.depth (step nodes i n nesting h e a).stands.may
+pub may_stand : (nodes : List Node) (i : ℕ) (kind : NodeKind) (nesting : Nesting) → option_map (λ (n : Node). n.kind) (slice_get nodes i) ≡ Some kind
+    → Nested nodes i nesting → MayStand (role_of kind) (length nesting.frames.items)
+may_stand nodes i kind nesting e a =
+    let w = node_at nodes i kind e in
+    subst (λ (k : NodeKind). MayStand (role_of k) (length nesting.frames.items)) w.kind_is
+    (subst (MayStand (role_of w.node.kind)) a.depth (step nodes i w.node nesting w.within w.is a).stands.may)
 
-pub nested_more : (nodes : List NodeData) (i : ℕ) (n : NodeData) (nesting new : Nesting) → i < length nodes → n ≡ get_or nodes i n → Nested nodes i nesting
+node_placed : (nodes : List Node) (i : ℕ) (n : Node) (nesting new : Nesting) → i < length nodes → n ≡ get_or nodes i n → Nested nodes i nesting
     → IsPlaced nesting (role_of n.kind) (i + 1) new → Nested nodes (i + 1) new
-nested_more nodes i n nesting new h e a p =
+node_placed nodes i n nesting new h e a p =
     let g = step nodes i n nesting h e a in
-    let len : length (kinds_of (map node_value (take i nodes))) ≡ i =
-    length-map (map node_value (take i nodes)) (λ m. m.kind) ∙ (length-map (take i nodes) node_value ∙ length-take-le i nodes (omega arith)) in
-    let number : 1 + length (kinds_of (map node_value (take i nodes))) ≡ i + 1 = omega (arith, len) in
+    let len : length (kinds_of (take i nodes)) ≡ i =
+    length-map (take i nodes) (λ m. m.kind) ∙ length-take-le i nodes (omega arith) in
+    let number : 1 + length (kinds_of (take i nodes)) ≡ i + 1 = omega (arith, len) in
     let more : take (i + 1) nodes ≡ take i nodes ++ n ∷ [] = take_more nodes i n h ∙ ap (λ x. take i nodes ++ x ∷ []) (sym e) in
-    let kinds : kinds_of (map node_value (take (i + 1) nodes)) ≡ kinds_of (map node_value (take i nodes)) ++ n.kind ∷ [] =
-    ap (λ (l : List NodeData). kinds_of (map node_value l)) more
-    ∙ (ap kinds_of (map-append node_value (take i nodes) (n ∷ [])) ∙ map-append (λ m. m.kind) (map node_value (take i nodes)) (node_value n ∷ [])) in
+    let kinds : kinds_of (take (i + 1) nodes) ≡ kinds_of (take i nodes) ++ n.kind ∷ [] =
+    ap kinds_of more ∙ map-append (λ m. m.kind) (take i nodes) (n ∷ []) in
     record {
       sections = g.after;
       depth = g.stands.depth ∙ (ap (depth_after (role_of n.kind)) a.depth ∙ sym p.depth);
       places =
           p.places
           ∙ (ap (λ (l : List Placed). l ++ record { role = role_of n.kind; node = i + 1 } ∷ []) a.places
-          ∙ (ap (λ x. places_from 1 (kinds_of (map node_value (take i nodes))) ++ record { role = role_of n.kind; node = x } ∷ []) (sym number)
-          ∙ (sym (places-push 1 (kinds_of (map node_value (take i nodes))) n.kind) ∙ ap (places_from 1) (sym kinds))));
+          ∙ (ap (λ x. places_from 1 (kinds_of (take i nodes)) ++ record { role = role_of n.kind; node = x } ∷ []) (sym number)
+          ∙ (sym (places-push 1 (kinds_of (take i nodes)) n.kind) ∙ ap (places_from 1) (sym kinds))));
       no_fault = g.no_fault;
     }
+
+pub nested_more : (nodes : List Node) (i : ℕ) (kind : NodeKind) (nesting new : Nesting) → option_map (λ (n : Node). n.kind) (slice_get nodes i) ≡ Some kind
+    → Nested nodes i nesting → IsPlaced nesting (role_of kind) (i + 1) new → Nested nodes (i + 1) new
+nested_more nodes i kind nesting new e a p =
+    let w = node_at nodes i kind e in
+    node_placed nodes i w.node nesting new w.within w.is a (subst (λ (k : NodeKind). IsPlaced nesting (role_of k) (i + 1) new) (sym w.kind_is) p)
 
 none_open : (sections : List OpenSection) → fault_at_end sections ≡ None → length sections ≡ 0
 none_open [] h = refl
@@ -144,9 +166,9 @@ none_placed (f ∷ fs) h = absurd (omega arith)
 no_frames : (nesting : Nesting) → length nesting.frames.items ≡ 0 → nested_places nesting ≡ places_of nesting.parts
 no_frames nesting h = ap (λ (l : List Placed). l ++ places_of nesting.parts) (none_placed nesting.frames.items h)
 
-pub nested_all : (nodes : List NodeData) (i : ℕ) (nesting : Nesting) → length nodes ≤ i → Nested nodes i nesting
-    → places_of nesting.parts ≡ places_from 1 (kinds_of (map node_value nodes))
+pub nested_all : (nodes : List Node) (i : ℕ) (nesting : Nesting) → length nodes ≤ i → Nested nodes i nesting
+    → places_of nesting.parts ≡ places_from 1 (kinds_of nodes)
 nested_all nodes i nesting h a =
-    let e : fault_at_end a.sections ≡ None = ap (λ (l : List NodeData). first_fault (map node_value l) a.sections) (sym (drop_all i nodes h)) ∙ a.no_fault in
+    let e : fault_at_end a.sections ≡ None = ap (λ (l : List Node). first_fault l a.sections) (sym (drop_all i nodes h)) ∙ a.no_fault in
     sym (no_frames nesting (sym a.depth ∙ none_open a.sections e))
-    ∙ (a.places ∙ ap (λ (l : List NodeData). places_from 1 (kinds_of (map node_value l))) (take_all i nodes h))
+    ∙ (a.places ∙ ap (λ (l : List Node). places_from 1 (kinds_of l)) (take_all i nodes h))

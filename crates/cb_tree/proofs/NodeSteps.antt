@@ -1,7 +1,9 @@
 -- The nodes of a source, one after another.
-use Rattle.std.proofs.Common.{◌≡◌, inl, inr, ℕ, ◌+◌, ◌<◌, ◌≤◌, List, [], ◌∷◌, ◌++◌, length, get_or, take, drop, map, Some, None, Ok, Err, refl, ap, sym, subst, ◌∙◌, append_assoc, arith, length-append, length-drop}
-use Rattle.std.proofs.lemmas.List.{append-nil, map-append, length-map}
+use Rattle.std.proofs.Common.{◌≡◌, inl, inr, ℕ, ◌+◌, ◌<◌, ◌≤◌, List, [], ◌∷◌, ◌++◌, length, take, drop, Some, None, Ok, Err, refl, ap, sym, subst, ◌∙◌, append_assoc, add-one, arith, length-append, length-drop}
+use Rattle.std.proofs.lemmas.List.{append-nil}
 use Rattle.std.proofs.lemmas.List.Sums.{sum_by-append, sum_by-cons}
+use Rattle.std.specs.Prelude.{slice_get}
+use Rattle.std.specs.Option.{option_map}
 use Prim.Native.Nat.{zero, suc}
 use Rattle.cb_lines.specs.declared.mark.Mark.{Mark}
 use Rattle.cb_lines.specs.Marks.{bytes_of}
@@ -11,11 +13,10 @@ use Rattle.cb_tokens.specs.Cut.{Piece, StandsFirst, Cuts, IsCut}
 use Rattle.cb_tree.specs.declared.fault.BadSource.{BadSource}
 use Rattle.cb_tree.specs.declared.fault.BuildFault.{BuildFault}
 use Rattle.cb_tree.specs.declared.fault.BuildFault.TheVariants.{Bad, NoMemory}
-use Rattle.cb_tree.specs.declared.node.NodeData.{NodeData}
 use Rattle.cb_tree.specs.declared.sections.OpenSection.{OpenSection}
 use Rattle.cb_tree.specs.Nodes.{Node, nodes_of, node_line, total_lines}
 use Rattle.cb_tree.specs.Sections.{sections_after, fault_at_end, fault_or, first_fault}
-use Rattle.cb_tree.specs.Reads.{Reads, Tells, ReadsOut, Refuses, AreSound, node_value}
+use Rattle.cb_tree.specs.Reads.{Reads, Tells, ReadsOut, Refuses, AreSound}
 use Rattle.cb_tree.proofs.Pieces.{passes, Cuts-trans, cut_of_none, open_after}
 use Rattle.cb_tree.proofs.ReadsMore.{reads_none, reads_on, tells_after}
 
@@ -49,96 +50,104 @@ abbrev lines_in : Node → ℕ
 lines_in n = length n.counted
 
 -- the nodes read so far, the sections that are open after them, and the rest
-pub record Progress (ms : List Mark) (nodes : List NodeData) (sections : List OpenSection) (rest : List Mark) : Type 0 where
-  pub reads : Reads ms (map node_value nodes) rest
-  pub faults : (more : List Node) → first_fault (map node_value nodes ++ more) [] ≡ first_fault more sections
+pub record Progress (ms : List Mark) (nodes : List Node) (sections : List OpenSection) (rest : List Mark) : Type 0 where
+  pub reads : Reads ms nodes rest
+  pub faults : (more : List Node) → first_fault (nodes ++ more) [] ≡ first_fault more sections
   pub few : length nodes + length rest ≤ length ms
-  pub few_lines : total_lines (map node_value nodes) + length rest ≤ length ms
+  pub few_lines : total_lines nodes + length rest ≤ length ms
 
 pub progress_none : (ms : List Mark) → Progress ms [] [] ms
 progress_none ms = record { reads = reads_none ms; faults = λ more. refl; few = omega arith; few_lines = omega arith }
 
 -- after one more node
-one_more : (nodes : List NodeData) (node : NodeData) → map node_value (nodes ++ node ∷ []) ≡ map node_value nodes ++ node_value node ∷ []
-one_more nodes node = map-append node_value nodes (node ∷ [])
-
-after_node : (nodes : List NodeData) (node : NodeData) (sections : List OpenSection) (more : List Node)
-    → ((ns : List Node) → first_fault (map node_value nodes ++ ns) [] ≡ first_fault ns sections)
-    → first_fault ((map node_value nodes ++ node_value node ∷ []) ++ more) []
-    ≡ fault_or (sections_after node.kind (node_line (node_value node)) sections) (first_fault more)
+after_node : (nodes : List Node) (node : Node) (sections : List OpenSection) (more : List Node)
+    → ((ns : List Node) → first_fault (nodes ++ ns) [] ≡ first_fault ns sections)
+    → first_fault ((nodes ++ node ∷ []) ++ more) []
+    ≡ fault_or (sections_after node.kind (node_line node) sections) (first_fault more)
 after_node nodes node sections more h =
-    ap (λ ns. first_fault ns []) (append_assoc (map node_value nodes) (node_value node ∷ []) more) ∙ h (node_value node ∷ more)
+    ap (λ ns. first_fault ns []) (append_assoc nodes (node ∷ []) more) ∙ h (node ∷ more)
 
-pub progress_on : (ms : List Mark) (nodes : List NodeData) (sections : List OpenSection) (mid : List Mark) (node : NodeData) (sections' : List OpenSection) (rest : List Mark)
-    → Progress ms nodes sections mid → Reads mid (node_value node ∷ []) rest → length rest < length mid → length node.counted + length rest ≤ length mid
-    → sections_after node.kind (node_line (node_value node)) sections ≡ Ok sections'
+pub progress_on : (ms : List Mark) (nodes : List Node) (sections : List OpenSection) (mid : List Mark) (node : Node) (sections' : List OpenSection) (rest : List Mark)
+    → Progress ms nodes sections mid → Reads mid (node ∷ []) rest → length rest < length mid → length node.counted + length rest ≤ length mid
+    → sections_after node.kind (node_line node) sections ≡ Ok sections'
     → Progress ms (nodes ++ node ∷ []) sections' rest
 progress_on ms nodes sections mid node sections' rest p reads shorter few after = record {
-  reads = subst (λ (ns : List Node). Reads ms ns rest) (sym (one_more nodes node)) (reads_on ms (map node_value nodes) mid (node_value node ∷ []) rest p.reads reads);
-  faults = λ more.
-      ap (λ ns. first_fault (ns ++ more) []) (one_more nodes node)
-      ∙ (after_node nodes node sections more p.faults ∙ ap (λ r. fault_or r (first_fault more)) after);
+  reads = reads_on ms nodes mid (node ∷ []) rest p.reads reads;
+  faults = λ more. after_node nodes node sections more p.faults ∙ ap (λ r. fault_or r (first_fault more)) after;
   few = omega (arith, p.few, length-append nodes (node ∷ []));
-  few_lines = omega (arith, p.few_lines, ap total_lines (one_more nodes node), sum_by-append lines_in (map node_value nodes) (node_value node ∷ []));
+  few_lines = omega (arith, p.few_lines, sum_by-append lines_in nodes (node ∷ []));
 }
 
 -- a node has a fault, unless a comment is open behind it
-pub refuses_node : (ms : List Mark) (nodes : List NodeData) (sections : List OpenSection) (mid : List Mark) (node : NodeData) (rest : List Mark) (fault result : BuildFault)
-    → Progress ms nodes sections mid → Reads mid (node_value node ∷ []) rest
-    → ((f : BadSource) → fault ≡ Bad f → sections_after node.kind (node_line (node_value node)) sections ≡ Err f)
+pub refuses_node : (ms : List Mark) (nodes : List Node) (sections : List OpenSection) (mid : List Mark) (node : Node) (rest : List Mark) (fault result : BuildFault)
+    → Progress ms nodes sections mid → Reads mid (node ∷ []) rest
+    → ((f : BadSource) → fault ≡ Bad f → sections_after node.kind (node_line node) sections ≡ Err f)
     → ReadsOut rest fault result → Refuses ms result
 refuses_node ms nodes sections mid node rest fault NoMemory p reads after out = tt
 refuses_node ms nodes sections mid node rest fault (Bad f) p reads after (inl (same, ns, more)) =
     inr (
-      (map node_value nodes ++ node_value node ∷ []) ++ ns,
-      reads_on ms (map node_value nodes ++ node_value node ∷ []) rest ns [] (reads_on ms (map node_value nodes) mid (node_value node ∷ []) rest p.reads reads) more,
+      (nodes ++ node ∷ []) ++ ns,
+      reads_on ms (nodes ++ node ∷ []) rest ns [] (reads_on ms nodes mid (node ∷ []) rest p.reads reads) more,
       after_node nodes node sections ns p.faults ∙ ap (λ r. fault_or r (first_fault ns)) (after f (sym same)),
     )
 refuses_node ms nodes sections mid node rest fault (Bad f) p reads after (inr tells) =
-    inl (tells_after ms rest (map node_value nodes ++ node_value node ∷ []) (Bad f) (reads_on ms (map node_value nodes) mid (node_value node ∷ []) rest p.reads reads) tells)
+    inl (tells_after ms rest (nodes ++ node ∷ []) (Bad f) (reads_on ms nodes mid (node ∷ []) rest p.reads reads) tells)
 
 -- the end of the source
-at_end : (ms : List Mark) (nodes : List NodeData) (sections : List OpenSection) (mid rest : List Mark)
-    → Progress ms nodes sections mid → Reads mid [] rest → rest ≡ [] → Reads ms (map node_value nodes) []
+at_end : (ms : List Mark) (nodes : List Node) (sections : List OpenSection) (mid rest : List Mark)
+    → Progress ms nodes sections mid → Reads mid [] rest → rest ≡ [] → Reads ms nodes []
 at_end ms nodes sections mid rest p reads h =
-    subst (λ (r : List Mark). Reads ms (map node_value nodes) r) h
-    (subst (λ (ns : List Node). Reads ms ns rest) (append-nil (map node_value nodes)) (reads_on ms (map node_value nodes) mid [] rest p.reads reads))
+    subst (λ (r : List Mark). Reads ms nodes r) h
+    (subst (λ (ns : List Node). Reads ms ns rest) (append-nil nodes) (reads_on ms nodes mid [] rest p.reads reads))
 
-end_fault : (ms : List Mark) (nodes : List NodeData) (sections : List OpenSection) (mid : List Mark)
-    → Progress ms nodes sections mid → first_fault (map node_value nodes) [] ≡ fault_at_end sections
-end_fault ms nodes sections mid p = ap (λ ns. first_fault ns []) (sym (append-nil (map node_value nodes))) ∙ p.faults []
+end_fault : (ms : List Mark) (nodes : List Node) (sections : List OpenSection) (mid : List Mark)
+    → Progress ms nodes sections mid → first_fault nodes [] ≡ fault_at_end sections
+end_fault ms nodes sections mid p = ap (λ ns. first_fault ns []) (sym (append-nil nodes)) ∙ p.faults []
 
-pub sound_at_end : (ms : List Mark) (nodes : List NodeData) (sections : List OpenSection) (mid rest : List Mark)
-    → Progress ms nodes sections mid → Reads mid [] rest → rest ≡ [] → fault_at_end sections ≡ None → AreSound ms (map node_value nodes)
+pub sound_at_end : (ms : List Mark) (nodes : List Node) (sections : List OpenSection) (mid rest : List Mark)
+    → Progress ms nodes sections mid → Reads mid [] rest → rest ≡ [] → fault_at_end sections ≡ None → AreSound ms nodes
 sound_at_end ms nodes sections mid rest p reads h e = record {
   reads = at_end ms nodes sections mid rest p reads h;
   no_fault = end_fault ms nodes sections mid p ∙ e;
-  few = omega (arith, p.few, length-map nodes node_value);
+  few = omega (arith, p.few);
   few_lines = omega (arith, p.few_lines);
 }
 
-pub refuses_at_end : (ms : List Mark) (nodes : List NodeData) (sections : List OpenSection) (mid rest : List Mark) (fault : BadSource)
+pub refuses_at_end : (ms : List Mark) (nodes : List Node) (sections : List OpenSection) (mid rest : List Mark) (fault : BadSource)
     → Progress ms nodes sections mid → Reads mid [] rest → rest ≡ [] → fault_at_end sections ≡ Some fault → Refuses ms (Bad fault)
 refuses_at_end ms nodes sections mid rest fault p reads h e =
-    inr (map node_value nodes, at_end ms nodes sections mid rest p reads h, end_fault ms nodes sections mid p ∙ e)
+    inr (nodes, at_end ms nodes sections mid rest p reads h, end_fault ms nodes sections mid p ∙ e)
 
-pub refuses_open : (ms : List Mark) (nodes : List NodeData) (sections : List OpenSection) (mid : List Mark) (fault : BuildFault)
+pub refuses_open : (ms : List Mark) (nodes : List Node) (sections : List OpenSection) (mid : List Mark) (fault : BuildFault)
     → Progress ms nodes sections mid → Tells mid fault → Refuses ms fault
-refuses_open ms nodes sections mid (Bad f) p h = inl (tells_after ms mid (map node_value nodes) (Bad f) p.reads h)
+refuses_open ms nodes sections mid (Bad f) p h = inl (tells_after ms mid nodes (Bad f) p.reads h)
 refuses_open ms nodes sections mid NoMemory p h = tt
 
 pub open_behind : (ms : List Mark) (ps : List Piece) (rest : List Mark) (fault : BuildFault) → Cuts ms ps rest → Tells rest fault → Tells ms fault
 open_behind ms ps rest (Bad f) h t = (t.0, open_after ms ps rest f.line h t.1)
 open_behind ms ps rest NoMemory h t = tt
 
-total_is : (x : NodeData) (xs : List NodeData) → total_lines (map node_value (x ∷ xs)) ≡ length x.counted + total_lines (map node_value xs)
-total_is x xs = sum_by-cons lines_in (node_value x) (map node_value xs)
+total_is : (x : Node) (xs : List Node) → total_lines (x ∷ xs) ≡ length x.counted + total_lines xs
+total_is x xs = sum_by-cons lines_in x xs
 
--- the lines of the first nodes and of the next are no more than all
-pub part_fits : (nodes : List NodeData) (i : ℕ) (n : NodeData) → i < length nodes → n ≡ get_or nodes i n
-    → total_lines (map node_value (take i nodes)) + length n.counted ≤ total_lines (map node_value nodes)
-part_fits [] i n h e = absurd (omega arith)
-part_fits (x ∷ xs) zero n h e =
-    let same : length n.counted ≡ length x.counted = ap (λ (m : NodeData). length m.counted) e in
-    omega (arith, same, total_is x xs)
-part_fits (x ∷ xs) (suc i) n h e = omega (arith, part_fits xs i n (omega arith) e, total_is x xs, total_is x (take i xs))
+-- the lines of the first nodes with those of the next
+total_on : (nodes : List Node) (i : ℕ) (counted : List ℕ) → option_map (λ (n : Node). n.counted) (slice_get nodes i) ≡ Some counted
+    → total_lines (take (suc i) nodes) ≡ total_lines (take i nodes) + length counted
+total_on [] i counted e = absurd (cc)
+total_on (x ∷ xs) zero counted e =
+    let same : x.counted ≡ counted = cc in
+    omega (arith, ap length same, total_is x [])
+total_on (x ∷ xs) (suc i) counted e = omega (arith, total_on xs i counted e, total_is x (take (suc i) xs), total_is x (take i xs))
+
+pub total_more : (nodes : List Node) (i : ℕ) (counted : List ℕ) → option_map (λ (n : Node). n.counted) (slice_get nodes i) ≡ Some counted
+    → total_lines (take (i + 1) nodes) ≡ total_lines (take i nodes) + length counted
+total_more nodes i counted e = rw (add-one i) (total_on nodes i counted e)
+
+-- are no more than all
+pub part_fits : (nodes : List Node) (i : ℕ) (counted : List ℕ) → option_map (λ (n : Node). n.counted) (slice_get nodes i) ≡ Some counted
+    → total_lines (take i nodes) + length counted ≤ total_lines nodes
+part_fits [] i counted e = absurd (cc)
+part_fits (x ∷ xs) zero counted e =
+    let same : x.counted ≡ counted = cc in
+    omega (arith, ap length same, total_is x xs)
+part_fits (x ∷ xs) (suc i) counted e = omega (arith, part_fits xs i counted e, total_is x xs, total_is x (take i xs))

@@ -1,9 +1,10 @@
 -- The ends of groups, from the last node to the first.
-use Rattle.std.proofs.Common.{◌≡◌, ℕ, ◌+◌, ◌-◌, ◌<◌, ◌==◌, false, if◌then◌else◌, List, [], ◌∷◌, length, drop, get_or, map, Option, Some, None, refl, ap, sym, ◌∙◌, ◌≤◌, subst, drop-cons, add-one, ne_eqb, arith}
+use Rattle.std.proofs.Common.{◌≡◌, ℕ, ◌+◌, ◌-◌, ◌<◌, ◌==◌, false, if◌then◌else◌, List, [], ◌∷◌, length, drop, get_or, Option, Some, None, refl, ap, sym, ◌∙◌, ◌≤◌, subst, drop-cons, add-one, ne_eqb, arith}
 use Prim.Native.Nat.{zero, suc}
+use Rattle.std.specs.Prelude.{slice_get}
+use Rattle.std.specs.Option.{option_map}
 use Rattle.std.proofs.lemmas.List.{drop_all}
-use Rattle.cb_tree.specs.declared.node.NodeData.{NodeData}
-use Rattle.cb_tree.specs.Reads.{node_value}
+use Rattle.cb_tree.specs.Nodes.{Node}
 use Rattle.cb_tree.specs.declared.node.NodeKind.{NodeKind}
 use Rattle.cb_tree.specs.declared.node.NodeKind.TheVariants.{Text, If, Ifdef, Ifndef, Elif, Else, Endif, Define, Undef, Include, Once, Error, Other}
 use Rattle.cb_tree.specs.Groups.{next_turn, ends_from, kinds_of}
@@ -102,7 +103,7 @@ back_more kinds left m kind ends turns b e kind_is =
     subst Q (sym l) (back_by kinds m kind ends turns (subst P l b) d)
 
 -- the kind at a place
-pub kind_at : (nodes : List NodeData) (i : ℕ) (n : NodeData) → i < length nodes → n ≡ get_or nodes i n → n.kind ≡ get_or (kinds_of (map node_value nodes)) i n.kind
-kind_at [] i n h e = absurd (omega arith)
-kind_at (x ∷ xs) zero n h e = ap (λ (m : NodeData). m.kind) e
-kind_at (x ∷ xs) (suc i) n h e = kind_at xs i n (omega arith) e
+pub kind_at : (nodes : List Node) (i : ℕ) (kind : NodeKind) → option_map (λ (n : Node). n.kind) (slice_get nodes i) ≡ Some kind → kind ≡ get_or (kinds_of nodes) i kind
+kind_at [] i kind e = absurd (cc)
+kind_at (n ∷ ns) zero kind e = cc
+kind_at (n ∷ ns) (suc i) kind e = kind_at ns i kind e

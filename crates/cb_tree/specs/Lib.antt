@@ -1,5 +1,6 @@
 pub mod Kinds
 pub mod Nodes
+pub mod Heads
 pub mod Sections
 pub mod Sound
 pub mod Reads

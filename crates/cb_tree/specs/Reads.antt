@@ -12,7 +12,7 @@ use Rattle.cb_tokens.specs.Logical.{split_lines, line_tokens, later_tokens, toke
 use Rattle.cb_tree.specs.declared.fault.SourceKind.TheVariants as kind
 use Rattle.cb_tree.specs.declared.fault.BuildFault.{BuildFault}
 use Rattle.cb_tree.specs.declared.fault.BuildFault.TheVariants.{Bad, NoMemory}
-use Rattle.cb_tree.specs.declared.node.NodeData.{NodeData}
+use Rattle.cb_tree.specs.declared.nodes.Head.{Head}
 use Rattle.cb_tree.specs.declared.node.NodeKind.TheVariants.{Text}
 use Rattle.cb_tree.specs.declared.reading.Ahead.{Ahead}
 use Rattle.cb_tree.specs.declared.reading.Start.{Start}
@@ -20,6 +20,7 @@ use Rattle.cb_tree.specs.declared.reading.Place.{Place}
 use Rattle.cb_tree.specs.declared.reading.Place.TheVariants.{LineStart, InLine}
 use Rattle.cb_tree.specs.Kinds.{is_hash, kind_of}
 use Rattle.cb_tree.specs.Nodes.{Node, nodes_of, total_lines}
+use Rattle.cb_tree.specs.Heads.{Adds, node_with}
 use Rattle.cb_tree.specs.Sections.{first_fault}
 use Rattle.cb_tree.specs.Sound.{IsRead, Unsound}
 
@@ -120,19 +121,20 @@ RunGoes ms None counted rest = Reads ms (text_node counted ∷ []) rest
 RunGoes ms (Some place) counted rest = ReadsRun ms place counted rest
 
 -- a directive goes on, with the white space before its next token, or has ended and is a node
-abbrev pub DirectiveGoes : List Mark → List Token → Option Bool → List ℕ → List Mark → Type 0
-DirectiveGoes ms tokens None counted rest = Reads ms (directive_node tokens counted ∷ []) rest
-DirectiveGoes ms tokens (Some spaced) counted rest = ReadsDirective ms tokens spaced counted rest
+abbrev pub DirectiveStands : List Mark → List Token → Option Bool → List ℕ → List Mark → Type 0
+DirectiveStands ms own None counted rest = Reads ms (directive_node own counted ∷ []) rest
+DirectiveStands ms own (Some spaced) counted rest = ReadsDirective ms own spaced counted rest
 
--- a node as contracts see it
-abbrev pub node_value : NodeData → Node
-node_value n = record { kind = n.kind; tokens = n.tokens.items; counted = n.counted }
+-- so does one whose tokens are kept behind those of the nodes before it
+abbrev pub DirectiveGoes : List Mark → List Token → List Token → Option Bool → List ℕ → List Mark → Type 0
+DirectiveGoes ms before after next counted rest = (own : List Token) × (after ≡ before ++ own) × DirectiveStands ms own next counted rest
 
--- the next node is read, or the source has ended
-abbrev pub ReadsNode : List Mark → List Mark → Option NodeData → Type 0
-ReadsNode ms rest None = Reads ms [] rest × (rest ≡ [])
-ReadsNode ms rest (Some node) =
-    Reads ms (node_value node ∷ []) rest × (length rest < length ms) × (length node.counted + length rest ≤ length ms)
+-- the next node is read and its tokens are kept, or the source has ended
+abbrev pub ReadsNode : List Mark → List Mark → List Token → List Token → Option Head → Type 0
+ReadsNode ms rest before after None = Reads ms [] rest × (rest ≡ []) × (after ≡ before)
+ReadsNode ms rest before after (Some head) =
+    ((own : List Token) × Adds before after head own × Reads ms (node_with own head ∷ []) rest)
+    × (length rest < length ms) × (length head.counted + length rest ≤ length ms)
 
 -- the rest of a source is read after a node's fault, which an open comment behind it overrules
 abbrev pub ReadsOut : List Mark → BuildFault → BuildFault → Type 0

@@ -1,22 +1,20 @@
 -- What a tree keeps. No public clause names these words.
-use Rattle.std.specs.Prelude.{◌≡◌, ℕ, ◌≤◌, if◌then◌else◌, List, [], ◌∷◌, length, drop, map, Option, Some, None}
-use Rattle.cb_tree.specs.declared.node.NodeData.{NodeData}
+use Rattle.std.specs.Prelude.{◌≡◌, ℕ, ◌≤◌, if◌then◌else◌, List, [], ◌∷◌, length, drop, Option, Some, None}
 use Rattle.cb_tree.specs.declared.node.NodeKind.{NodeKind}
 use Rattle.cb_tree.specs.declared.node.NodeKind.TheVariants.{Text, If, Ifdef, Ifndef, Elif, Else, Endif, Define, Undef, Include, Once, Error, Other}
 use Rattle.cb_tree.specs.declared.part.Part.{Part}
 use Rattle.cb_tree.specs.Nesting.{places_of, places_from}
 use Rattle.cb_tree.specs.Groups.{opens_group, kinds_of, ends_from}
-use Rattle.cb_tree.specs.Nodes.{total_lines}
+use Rattle.cb_tree.specs.Nodes.{Node, total_lines}
 use Rattle.cb_tree.specs.Sections.{first_fault}
-use Rattle.cb_tree.specs.Reads.{node_value}
 
 -- a tree's nodes, which have no fault, the number of their counted lines, the ends of the groups that they begin, and their nesting
-pub record IsKept (nodes : List NodeData) (total : ℕ) (ends : List (Option ℕ)) (parts : List Part) : Type 0 where
+pub record IsKept (nodes : List Node) (total : ℕ) (ends : List (Option ℕ)) (parts : List Part) : Type 0 where
   pub few : length nodes ≤ 4194304
-  pub no_fault : first_fault (map node_value nodes) [] ≡ None
-  pub total_is : total ≡ total_lines (map node_value nodes)
-  pub ends_are : ends ≡ ends_from 1 (kinds_of (map node_value nodes))
-  pub parts_are : places_of parts ≡ places_from 1 (kinds_of (map node_value nodes))
+  pub no_fault : first_fault nodes [] ≡ None
+  pub total_is : total ≡ total_lines nodes
+  pub ends_are : ends ≡ ends_from 1 (kinds_of nodes)
+  pub parts_are : places_of parts ≡ places_from 1 (kinds_of nodes)
 
 -- the first of a list
 abbrev pub front_of : List ℕ → Option ℕ

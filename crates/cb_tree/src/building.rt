@@ -1,15 +1,15 @@
 //! From a source to its tree.
-ghost use Rattle.std.specs.Prelude.{List, ℕ, ◌≡◌, ◌⊎◌, ◌≤◌, length, map, [], None, IfOk, IfErr};
+ghost use Rattle.std.specs.Prelude.{List, ℕ, ◌≡◌, ◌⊎◌, ◌≤◌, length, [], None, IfOk, IfErr};
 ghost use Rattle.cb_tree.specs.Sound.{IsRead, Reading, Sound, Unsound};
 ghost use Rattle.cb_tree.specs.Nodes.{total_lines};
 ghost use Rattle.cb_tree.specs.Sections.{first_fault};
-ghost use Rattle.cb_tree.specs.Reads.{IsReadAs, node_value};
+ghost use Rattle.cb_tree.specs.Reads.{IsReadAs};
 ghost use Rattle.cb_tree.specs.declared.fault.BadSource.{BadSource as Fault};
 
 use crate::fault::BuildFault;
 use crate::groups::group_ends;
 use crate::nesting::nest;
-use crate::node::NodeData;
+use crate::nodes::Nodes;
 use crate::sequence::read_nodes;
 use crate::size::check_size;
 use crate::tree::Tree;
@@ -18,11 +18,11 @@ use cb_tokens::one_cut;
 use std::alloc::Global;
 
 /// The nodes of a source.
-fn read_source(alloc: Global, source: &[u8]) -> Result<Vec<NodeData>, BuildFault>
-    ensures nodes { IfOk result (λ nodes. IsRead source.now (Sound (map node_value nodes.items))) }
-    ensures no_fault { IfOk result (λ nodes. first_fault (map node_value nodes.items) [] ≡ None) }
-    ensures few { IfOk result (λ nodes. length nodes.items ≤ 4194304) }
-    ensures few_lines { IfOk result (λ nodes. total_lines (map node_value nodes.items) ≤ 4194304) }
+fn read_source(alloc: Global, source: &[u8]) -> Result<Nodes, BuildFault>
+    ensures nodes { IfOk result (λ nodes. IsRead source.now (Sound nodes)) }
+    ensures no_fault { IfOk result (λ nodes. first_fault nodes [] ≡ None) }
+    ensures few { IfOk result (λ nodes. length nodes ≤ 4194304) }
+    ensures few_lines { IfOk result (λ nodes. total_lines nodes ≤ 4194304) }
     ensures fault { IfErr result (IsReadAs source.now) }
 {
     check_size(source)?;
@@ -33,13 +33,13 @@ fn read_source(alloc: Global, source: &[u8]) -> Result<Vec<NodeData>, BuildFault
 }
 
 /// The number of the counted lines of all nodes together.
-fn total_of(nodes: &[NodeData]) -> u64
-    requires { total_lines (map node_value nodes.now) ≤ 4194304 }
-    ensures { result ≡ total_lines (map node_value nodes.now) }
+fn total_of(nodes: &Nodes) -> u64
+    requires { total_lines nodes.now ≤ 4194304 }
+    ensures { result ≡ total_lines nodes.now }
 {
     let mut total = 0;
-    for node in nodes {
-        total += node.counted.count();
+    for at in 0..nodes.len() {
+        total += nodes.counted(at).count();
     }
     total
 }
@@ -60,9 +60,9 @@ pub fn build(alloc: Global, source: &[u8]) -> Result<Tree, BuildFault>
 {
     one_reading();
     let nodes = read_source(alloc, source)?;
-    let total = total_of(nodes.as_slice());
-    let ends = group_ends(alloc, nodes.as_slice())?;
-    let parts = nest(alloc, nodes.as_slice())?;
+    let total = total_of(&nodes);
+    let ends = group_ends(alloc, &nodes)?;
+    let parts = nest(alloc, &nodes)?;
     Ok(Tree {
         nodes,
         total,

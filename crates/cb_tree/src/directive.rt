@@ -5,11 +5,13 @@ ghost use Rattle.cb_lines.specs.Marks.{bytes_of};
 ghost use Rattle.cb_tokens.specs.Cut.{StandsFirst};
 ghost use Rattle.cb_tokens.specs.declared.first.First.{First};
 ghost use Rattle.cb_tree.specs.Kinds.{is_hash_text};
-ghost use Rattle.cb_tree.specs.Reads.{Reads, ReadsDirective, DirectiveGoes, Tells, node_value};
+ghost use Rattle.cb_tokens.specs.declared.token.Token.{Token};
+ghost use Rattle.cb_tree.specs.Heads.{Adds, node_with};
+ghost use Rattle.cb_tree.specs.Reads.{Reads, ReadsDirective, DirectiveGoes, Tells};
 
 use crate::fault::BuildFault;
 use crate::kind::kind_of;
-use crate::node::NodeData;
+use crate::nodes::{Head, part};
 use crate::reading::{Start, look_ahead, pass_counted};
 use cb_lines::{Lines, Walk};
 use cb_paths::{Bytes, NoMemory};
@@ -39,8 +41,8 @@ fn pass_piece(
     counted: &mut Lines,
     spaced: bool,
 ) -> Result<Option<bool>, BuildFault>
-    ensures goes { IfOk result (λ next. (ms : List Mark)
-        → ReadsDirective ms tokens.old.items spaced counted.old walk.old → DirectiveGoes ms tokens.new.items next counted.new walk.new) }
+    ensures goes { IfOk result (λ next. (ms : List Mark) (before own : List Token) → tokens.old.items ≡ before ++ own
+        → ReadsDirective ms own spaced counted.old walk.old → DirectiveGoes ms before tokens.new.items next counted.new walk.new) }
     ensures shorter { IfOk result (λ next. MatchOption next (length walk.new ≤ length walk.old) (λ _. length walk.new < length walk.old)) }
     ensures few { OnOk result (length counted.new + length walk.new ≤ length counted.old + length walk.old) }
     ensures tells { IfErr result (Tells walk.old) }
@@ -73,24 +75,25 @@ fn pass_piece(
     }
 }
 
-/// Reads a directive line from its `#` on.
+/// Reads a directive line from its `#` on, and adds its tokens to those of the nodes before it.
 pub(crate) fn read_directive(
     alloc: Global,
     walk: &mut Walk,
     token: Start,
-) -> Result<NodeData, BuildFault>
+    tokens: &mut Vec<Token>,
+) -> Result<Head, BuildFault>
     requires stands { StandsFirst (bytes_of walk.old) (First.Piece (PieceKind.Token token.kind) token.len) }
     requires hash { is_hash_text (take token.len (bytes_of walk.old)) ≡ true }
-    ensures reads { IfOk result (λ node. Reads walk.old (node_value node ∷ []) walk.new) }
+    ensures reads { IfOk result (λ head. (own : List Token) × Adds tokens.old.items tokens.new.items head own × Reads walk.old (node_with own head ∷ []) walk.new) }
     ensures shorter { OnOk result (length walk.new < length walk.old) }
-    ensures few { IfOk result (λ node. length node.counted + length walk.new ≤ length walk.old) }
+    ensures few { IfOk result (λ head. length head.counted + length walk.new ≤ length walk.old) }
     ensures tells { IfErr result (Tells walk.old) }
 {
-    let mut tokens = Vec::new(alloc);
+    let from = tokens.len();
     let mut counted = Lines::new(alloc);
     keep_token(
         alloc,
-        &mut tokens,
+        tokens,
         token.kind,
         &walk.rest()[..token.len],
         false,
@@ -98,15 +101,17 @@ pub(crate) fn read_directive(
     pass_counted(walk, token, &mut counted)?;
     let mut spaced = false;
     'pieces: loop {
-        match pass_piece(alloc, walk, &mut tokens, &mut counted, spaced)? {
+        match pass_piece(alloc, walk, tokens, &mut counted, spaced)? {
             Some(next) => spaced = next,
             None => break,
         }
     }
-    let kind = kind_of(tokens.as_slice());
-    Ok(NodeData {
+    let to = tokens.len();
+    let kind = kind_of(part(tokens.as_slice(), from, to));
+    Ok(Head {
+        from,
+        to,
         kind,
-        tokens,
         counted,
     })
 }

@@ -1,10 +1,10 @@
 //! Where the groups of if sections end.
-ghost use Rattle.std.specs.Prelude.{◌≡◌, ◌≤◌, length, map, reverse, IfOk, OnOk};
+ghost use Rattle.std.specs.Prelude.{◌≡◌, ◌≤◌, length, reverse, IfOk, OnOk};
 ghost use Rattle.cb_tree.specs.Groups.{kinds_of, ends_from};
-ghost use Rattle.cb_tree.specs.Reads.{node_value};
 ghost use Rattle.cb_tree.specs.Trees.{end_by, turns_with};
 
-use crate::node::{NodeData, NodeKind};
+use crate::node::NodeKind;
+use crate::nodes::Nodes;
 use cb_paths::NoMemory;
 use std::alloc::Global;
 
@@ -36,9 +36,9 @@ fn step_back(turns: &mut Vec<u32>, kind: NodeKind, node: u32) -> Result<Option<u
 }
 
 /// The end of the group that each node begins.
-pub(crate) fn group_ends(alloc: Global, nodes: &[NodeData]) -> Result<Vec<Option<u32>>, NoMemory>
+pub(crate) fn group_ends(alloc: Global, nodes: &Nodes) -> Result<Vec<Option<u32>>, NoMemory>
     requires { length nodes.now ≤ 4194304 }
-    ensures { IfOk result (λ ends. ends.items ≡ ends_from 1 (kinds_of (map node_value nodes.now))) }
+    ensures { IfOk result (λ ends. ends.items ≡ ends_from 1 (kinds_of nodes.now)) }
 {
     let mut turns = Vec::new(alloc);
     let mut ends = Vec::new(alloc);
@@ -46,7 +46,7 @@ pub(crate) fn group_ends(alloc: Global, nodes: &[NodeData]) -> Result<Vec<Option
     'nodes: while left > 0 {
         let node = left as u32;
         left -= 1;
-        let end = step_back(&mut turns, nodes[left].kind, node)?;
+        let end = step_back(&mut turns, nodes.kind(left), node)?;
         ends.push(end)?;
     }
     ends.reverse();

@@ -8,6 +8,7 @@ mod groups;
 mod kind;
 mod nesting;
 mod node;
+mod nodes;
 mod part;
 mod reading;
 mod role;

@@ -1,12 +1,11 @@
 //! From the nodes of a sound source to its parts.
-ghost use Rattle.std.specs.Prelude.{◌≡◌, ◌<◌, ◌≤◌, ◌∷◌, ◌++◌, [], length, map, None, IfOk};
+ghost use Rattle.std.specs.Prelude.{◌≡◌, ◌<◌, ◌≤◌, ◌∷◌, ◌++◌, [], length, None, IfOk};
 ghost use Rattle.cb_tree.specs.Nesting.{places_of, places_from, section_places, inner_places};
 ghost use Rattle.cb_tree.specs.Frames.{Places, MayStand, IsPlaced};
 ghost use Rattle.cb_tree.specs.Groups.{kinds_of};
 ghost use Rattle.cb_tree.specs.Sections.{first_fault};
-ghost use Rattle.cb_tree.specs.Reads.{node_value};
 
-use crate::node::NodeData;
+use crate::nodes::Nodes;
 use crate::part::{Group, Groups, Part, Parts, Section};
 use crate::role::{Role, find_role};
 use cb_paths::NoMemory;
@@ -146,17 +145,17 @@ fn place(alloc: Global, nesting: Nesting, role: Role, node: u32) -> Result<Nesti
 }
 
 /// The parts of a source whose nodes have no fault.
-pub(crate) fn nest(alloc: Global, nodes: &[NodeData]) -> Result<Parts, NoMemory>
+pub(crate) fn nest(alloc: Global, nodes: &Nodes) -> Result<Parts, NoMemory>
     requires few { length nodes.now ≤ 4194304 }
-    requires sound { first_fault (map node_value nodes.now) [] ≡ None }
-    ensures { IfOk result (λ parts. places_of parts ≡ places_from 1 (kinds_of (map node_value nodes.now))) }
+    requires sound { first_fault nodes.now [] ≡ None }
+    ensures { IfOk result (λ parts. places_of parts ≡ places_from 1 (kinds_of nodes.now)) }
 {
     let mut nesting = Nesting {
         frames: Vec::new(alloc),
         parts: Items::new(alloc),
     };
     for i in 0..nodes.len() {
-        nesting = place(alloc, nesting, find_role(nodes[i].kind), i as u32 + 1)?;
+        nesting = place(alloc, nesting, find_role(nodes.kind(i)), i as u32 + 1)?;
     }
     let Nesting { frames: _, parts } = nesting;
     Ok(parts)

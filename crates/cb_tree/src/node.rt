@@ -1,6 +1,4 @@
-//! The nodes of a source.
-use cb_lines::Lines;
-use cb_tokens::Token;
+//! What a node of a source is.
 
 /// What a node of a source is: a run of text, or a directive line by the identifier behind its `#`.
 #[derive(Clone, Copy, Debug, PartialEq, Eq)]
@@ -31,12 +29,4 @@ pub enum NodeKind {
     Error,
     /// Any other directive, the empty one among them.
     Other,
-}
-
-/// A node: its kind, all tokens of a directive and none of text, and the set of its counted lines.
-#[derive(Drop)]
-pub(crate) struct NodeData {
-    pub(crate) kind: NodeKind,
-    pub(crate) tokens: Vec<Token>,
-    pub(crate) counted: Lines,
 }

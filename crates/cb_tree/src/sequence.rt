@@ -1,34 +1,42 @@
 //! The nodes of a source in order, with the first fault among them.
-ghost use Rattle.std.specs.Prelude.{◌≡◌, map, IfOk, IfErr};
-ghost use Rattle.cb_tree.specs.Reads.{Tells, ReadsNode, ReadsOut, Refuses, AreSound, node_value};
+ghost use Rattle.std.specs.Prelude.{◌≡◌, IfOk, IfErr};
+ghost use Rattle.cb_tree.specs.Reads.{Tells, ReadsNode, ReadsOut, Refuses, AreSound};
 
 use crate::directive::read_directive;
 use crate::fault::BuildFault;
 use crate::kind::is_hash_text;
-use crate::node::{NodeData, NodeKind};
+use crate::node::NodeKind;
+use crate::nodes::{Head, Nodes};
 use crate::reading::{look_ahead, skip_white};
 use crate::run::read_run;
 use crate::sections::Sections;
 use crate::tree::first_line;
 use cb_lines::Walk;
+use cb_tokens::Token;
 use std::alloc::Global;
 
-/// Reads the next node, or goes to the end of the source where there is none.
-fn read_node(alloc: Global, walk: &mut Walk) -> Result<Option<NodeData>, BuildFault>
-    ensures reads { IfOk result (ReadsNode walk.old walk.new) }
+/// Reads the next node and adds its tokens to those of the nodes before it, or goes to the end of the source where there is none.
+fn read_node(
+    alloc: Global,
+    walk: &mut Walk,
+    tokens: &mut Vec<Token>,
+) -> Result<Option<Head>, BuildFault>
+    ensures reads { IfOk result (ReadsNode walk.old walk.new tokens.old.items tokens.new.items) }
     ensures tells { IfErr result (Tells walk.old) }
 {
     let Some(token) = skip_white(walk)? else {
         return Ok(None);
     };
     if is_hash_text(&walk.rest()[..token.len]) {
-        let node = read_directive(alloc, walk, token)?;
-        return Ok(Some(node));
+        let head = read_directive(alloc, walk, token, tokens)?;
+        return Ok(Some(head));
     }
     let counted = read_run(alloc, walk, token)?;
-    Ok(Some(NodeData {
+    let count = tokens.len();
+    Ok(Some(Head {
+        from: count,
+        to: count,
         kind: NodeKind::Text,
-        tokens: Vec::new(alloc),
         counted,
     }))
 }
@@ -47,26 +55,27 @@ fn read_out(walk: &mut Walk, fault: BuildFault) -> BuildFault
 }
 
 /// The nodes of a source.
-pub(crate) fn read_nodes(alloc: Global, walk: &mut Walk) -> Result<Vec<NodeData>, BuildFault>
-    ensures nodes { IfOk result (λ nodes. AreSound walk.old (map node_value nodes.items)) }
+pub(crate) fn read_nodes(alloc: Global, walk: &mut Walk) -> Result<Nodes, BuildFault>
+    ensures nodes { IfOk result (AreSound walk.old) }
     ensures fault { IfErr result (Refuses walk.old) }
 {
-    let mut nodes = Vec::new(alloc);
+    let mut heads = Vec::new(alloc);
+    let mut tokens = Vec::new(alloc);
     let mut sections = Sections::new(alloc);
     'nodes: loop {
-        match read_node(alloc, walk)? {
+        match read_node(alloc, walk, &mut tokens)? {
             None => break,
-            Some(node) => {
-                let line = first_line(node.counted.spans());
-                match sections.after(node.kind, line) {
-                    Ok(()) => nodes.push(node)?,
+            Some(head) => {
+                let line = first_line(head.counted.spans());
+                match sections.after(head.kind, line) {
+                    Ok(()) => heads.push(head)?,
                     Err(fault) => return Err(read_out(walk, fault)),
                 }
             }
         }
     }
     match sections.fault_at_end() {
-        None => Ok(nodes),
+        None => Ok(Nodes { heads, tokens }),
         Some(fault) => Err(BuildFault::Bad(fault)),
     }
 }

@@ -9,7 +9,8 @@ ghost use Rattle.cb_tree.specs.Nesting.{places_of, places_from};
 ghost use Rattle.cb_tree.specs.Skeleton.{skeleton};
 
 use crate::kind;
-use crate::node::{NodeData, NodeKind};
+use crate::node::NodeKind;
+use crate::nodes::Nodes;
 use crate::part::{Part, Parts};
 use crate::skeleton::are_same_bones;
 use cb_lines::{Lines, Span};
@@ -19,24 +20,23 @@ use std::marker::Model;
 /// The tree of a sound source, which contracts see as the list of its nodes. Nodes are numbered from 1.
 #[derive(Drop)]
 pub struct Tree {
-    pub(crate) nodes: Vec<NodeData>,
+    pub(crate) nodes: Nodes,
     pub(crate) total: u64,
     pub(crate) ends: Vec<Option<u32>>,
     pub(crate) parts: Parts,
 }
 
 impl Model for Tree {
-    ghost use Rattle.std.specs.Prelude.{List, map};
+    ghost use Rattle.std.specs.Prelude.{List};
     ghost use Rattle.cb_tree.specs.Nodes.{Node};
 
     ghost Value = { List Node };
 
-    ghost use Rattle.cb_tree.specs.Reads.{node_value};
     ghost use Rattle.cb_tree.specs.Trees.{IsKept};
 
-    ghost view = { λ t. map node_value t.nodes.items };
+    ghost view = { λ t. t.nodes };
 
-    ghost invariant = { λ t. IsKept t.nodes.items t.total t.ends.items t.parts };
+    ghost invariant = { λ t. IsKept t.nodes t.total t.ends.items t.parts };
 }
 
 /// The least number of spans; 0 where there is none.
@@ -67,7 +67,7 @@ impl Tree {
     pub fn same_skeleton(&self, other: &Tree) -> bool
         ensures { IsTrue result ↔ (skeleton self.now ≡ skeleton other.now) }
     {
-        are_same_bones(self.nodes.as_slice(), other.nodes.as_slice())
+        are_same_bones(&self.nodes, &other.nodes)
     }
 
     /// The kind of a node.
@@ -75,7 +75,7 @@ impl Tree {
         requires { (1 ≤ node) × (node ≤ length self.now) }
         ensures { option_map (λ n. n.kind) (slice_get self.now (node - 1)) ≡ Some result }
     {
-        self.nodes[node as usize - 1].kind
+        self.nodes.kind(node as usize - 1)
     }
 
     /// The number of the `#elif`, `#else` or `#endif` that ends the group which a node begins, none where it begins none.
@@ -101,7 +101,7 @@ impl Tree {
         requires { (1 ≤ node) × (node ≤ length self.now) }
         ensures { option_map node_rest (slice_get self.now (node - 1)) ≡ Some result.now }
     {
-        kind::rest(self.nodes[node as usize - 1].tokens.as_slice())
+        kind::rest(self.nodes.tokens(node as usize - 1))
     }
 
     /// The set of the physical lines on which a byte of a token of the node stands.
@@ -109,7 +109,7 @@ impl Tree {
         requires { (1 ≤ node) × (node ≤ length self.now) }
         ensures { option_map (λ n. n.counted) (slice_get self.now (node - 1)) ≡ Some result.now }
     {
-        &self.nodes[node as usize - 1].counted
+        self.nodes.counted(node as usize - 1)
     }
 
     /// The first physical line with a byte of a token of the node.

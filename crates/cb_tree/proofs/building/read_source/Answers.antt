@@ -1,22 +1,21 @@
-use Rattle.std.proofs.Common.{◌≡◌, List, map, length, ap, ◌∙◌, subst, arith}
-use Rattle.std.proofs.lemmas.List.{length-map}
+use Rattle.std.proofs.Common.{◌≡◌, List, length, ap, ◌∙◌, subst, arith}
 use Rattle.std.proofs.lemmas.Result.{err_from_is_err_and}
 use Rattle.cb_lines.specs.declared.mark.Mark.{Mark}
 use Rattle.cb_lines.specs.Marks.{marks_of}
-use Rattle.cb_tree.specs.Reads.{AreSound, Refuses, node_value}
+use Rattle.cb_tree.specs.Reads.{AreSound, Refuses}
 use Rattle.cb_tree.proofs.Built.{read_sound, read_as, few_marks}
 use Rattle.cb_tree.proofs.building.read_source.Goals as goal
 
 pub returns-clause-nodes : goal.returns-clause-nodes
 returns-clause-nodes c =
     let walk_is : c.new-walk.result ≡ marks_of c.args.source.now = c.new-walk.ensures ∙ c.in_ok-marks.ensures in
-    let P : List Mark → Type 0 = λ ms. AreSound ms (map node_value c.in_ok-nodes.nodes.items) in
-    read_sound c.args.source.now (map node_value c.in_ok-nodes.nodes.items) c.in_ok-check_size.ensures (subst P walk_is c.in_ok-nodes.ensures.nodes)
+    let P : List Mark → Type 0 = λ ms. AreSound ms c.in_ok-nodes.nodes in
+    read_sound c.args.source.now c.in_ok-nodes.nodes c.in_ok-check_size.ensures (subst P walk_is c.in_ok-nodes.ensures.nodes)
 
 pub returns-clause-few : goal.returns-clause-few
 returns-clause-few c =
     let walk_is : c.new-walk.result ≡ marks_of c.args.source.now = c.new-walk.ensures ∙ c.in_ok-marks.ensures in
-    omega (arith, few_marks c.args.source.now, ap length walk_is, c.in_ok-nodes.ensures.nodes.few, length-map c.in_ok-nodes.nodes.items node_value, c.in_ok-check_size.ensures.bytes)
+    omega (arith, few_marks c.args.source.now, ap length walk_is, c.in_ok-nodes.ensures.nodes.few, c.in_ok-check_size.ensures.bytes)
 
 pub returns-clause-few_lines : goal.returns-clause-few_lines
 returns-clause-few_lines c =

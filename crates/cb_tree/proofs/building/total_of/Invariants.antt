@@ -1,7 +1,6 @@
-use Rattle.std.proofs.Common.{◌≡◌, map, take}
+use Rattle.std.proofs.Common.{◌≡◌, take}
 use Rattle.cb_tree.specs.Nodes.{total_lines}
-use Rattle.cb_tree.specs.Reads.{node_value}
 use Rattle.cb_tree.proofs.building.total_of.Given as goal
 
-abbrev pub invariant-loop-node : goal.invariant-loop-node
-invariant-loop-node l = l.total ≡ total_lines (map node_value (take l.node-index l.nodes))
+abbrev pub invariant-loop-at : goal.invariant-loop-at
+invariant-loop-at l = l.total ≡ total_lines (take l.at l.nodes)

@@ -1,7 +1,6 @@
-use Rattle.std.proofs.Common.{◌≡◌, [], None, ◌≤◌, List, map, length, ap, ◌∙◌, sym, arith}
+use Rattle.std.proofs.Common.{◌≡◌, [], None, ◌≤◌, List, length, ap, ◌∙◌, sym, arith}
 use Rattle.std.proofs.lemmas.List.{length-map}
 use Rattle.cb_tree.specs.Nodes.{Node}
-use Rattle.cb_tree.specs.Reads.{node_value}
 use Rattle.cb_tree.specs.Groups.{kinds_of, ends_from}
 use Rattle.cb_tree.proofs.GroupEnds.{end_at, end_within, length-ends_from}
 use Rattle.cb_tree.specs.Sections.{first_fault}
@@ -10,14 +9,14 @@ use Rattle.cb_tree.proofs.tree.Tree.group_end.Goals as goal
 
 pub bounds-ends-node : goal.bounds-ends-node
 bounds-ends-node c =
-    let v : map node_value c.self.inside.nodes.items ≡ c.args.self.now = c.self.view_is in
+    let v : c.self.inside.nodes ≡ c.args.self.now = c.self.view_is in
     let e : c.as_slice-ends.result.now ≡ ends_from 1 (kinds_of c.args.self.now) =
     c.as_slice-ends.ensures.value ∙ (c.self.invariant.ends_are ∙ ap (λ (x : List Node). ends_from 1 (kinds_of x)) v) in
     omega (arith, ap length e, length-ends_from (kinds_of c.args.self.now) 1, length-map c.args.self.now (λ n. n.kind), c.requires)
 
 pub returns-clause-end : goal.returns-clause-end
 returns-clause-end c =
-    let v : map node_value c.self.inside.nodes.items ≡ c.args.self.now = c.self.view_is in
+    let v : c.self.inside.nodes ≡ c.args.self.now = c.self.view_is in
     let e : c.as_slice-ends.result.now ≡ ends_from 1 (kinds_of c.args.self.now) =
     c.as_slice-ends.ensures.value ∙ (c.self.invariant.ends_are ∙ ap (λ (x : List Node). ends_from 1 (kinds_of x)) v) in
     let few : c.args.node ≤ length (kinds_of c.args.self.now) = omega (arith, length-map c.args.self.now (λ n. n.kind), c.requires) in
@@ -25,7 +24,7 @@ returns-clause-end c =
 
 pub returns-clause-behind : goal.returns-clause-behind
 returns-clause-behind c =
-    let v : map node_value c.self.inside.nodes.items ≡ c.args.self.now = c.self.view_is in
+    let v : c.self.inside.nodes ≡ c.args.self.now = c.self.view_is in
     let e : c.as_slice-ends.result.now ≡ ends_from 1 (kinds_of c.args.self.now) =
     c.as_slice-ends.ensures.value ∙ (c.self.invariant.ends_are ∙ ap (λ (x : List Node). ends_from 1 (kinds_of x)) v) in
     let few : c.args.node ≤ length (kinds_of c.args.self.now) = omega (arith, length-map c.args.self.now (λ n. n.kind), c.requires) in
@@ -34,7 +33,7 @@ returns-clause-behind c =
 
 pub returns-clause-every : goal.returns-clause-every
 returns-clause-every c = λ o.
-    let v : map node_value c.self.inside.nodes.items ≡ c.args.self.now = c.self.view_is in
+    let v : c.self.inside.nodes ≡ c.args.self.now = c.self.view_is in
     let e : c.as_slice-ends.result.now ≡ ends_from 1 (kinds_of c.args.self.now) =
     c.as_slice-ends.ensures.value ∙ (c.self.invariant.ends_are ∙ ap (λ (x : List Node). ends_from 1 (kinds_of x)) v) in
     let few : c.args.node ≤ length (kinds_of c.args.self.now) = omega (arith, length-map c.args.self.now (λ n. n.kind), c.requires) in
