@@ -1,5 +1,5 @@
 //! From the nodes of a sound source to its parts.
-ghost use Rattle.std.specs.Prelude.{◌≡◌, ◌<◌, ◌≤◌, ◌∷◌, ◌++◌, [], length, None, IfOk};
+ghost use Rattle.std.specs.Prelude.{◌≡◌, ◌<◌, ◌≤◌, ◌∷◌, ◌++◌, [], length, None, IfOk, OnOk};
 ghost use Rattle.cb_tree.specs.Nesting.{places_of, places_from, section_places, inner_places};
 ghost use Rattle.cb_tree.specs.Frames.{Places, MayStand, IsPlaced};
 ghost use Rattle.cb_tree.specs.Groups.{kinds_of};
@@ -11,32 +11,30 @@ use crate::role::{Role, find_role};
 use cb_paths::NoMemory;
 use sqlite_items::Items;
 use std::alloc::Global;
+use std::mem;
 
-/// A list with a plain node behind it.
-fn with_plain(parts: Parts, node: u32) -> Result<Parts, NoMemory>
-    ensures { IfOk result (λ new. places_of new ≡ places_of parts ++ record { role = Role.Within; node = node } ∷ []) }
+/// Adds a plain node to parts.
+fn push_plain(parts: &mut Parts, node: u32) -> Result<(), NoMemory>
+    ensures { OnOk result (places_of parts.new ≡ places_of parts.old ++ record { role = Role.Within; node = node } ∷ []) }
 {
-    let mut parts = parts;
     parts.push(Part::Plain(node))?;
-    Ok(parts)
+    Ok(())
 }
 
-/// A list with a section behind it.
-fn with_section(parts: Parts, groups: Groups, end: u32) -> Result<Parts, NoMemory>
-    ensures { IfOk result (λ new. places_of new ≡ places_of parts ++ section_places groups end) }
+/// Adds a section to parts.
+fn push_section(parts: &mut Parts, groups: Groups, end: u32) -> Result<(), NoMemory>
+    ensures { OnOk result (places_of parts.new ≡ places_of parts.old ++ section_places groups end) }
 {
-    let mut parts = parts;
     parts.push(Part::Section(Section { groups, end }))?;
-    Ok(parts)
+    Ok(())
 }
 
-/// Groups with one more behind them.
-fn with_group(groups: Groups, head: u32, parts: Parts) -> Result<Groups, NoMemory>
-    ensures { IfOk result (λ new. inner_places new ≡ inner_places groups ++ record { head = head; inner = places_of parts } ∷ []) }
+/// Adds a group to those of a section.
+fn push_group(groups: &mut Groups, head: u32, parts: Parts) -> Result<(), NoMemory>
+    ensures { OnOk result (inner_places groups.new ≡ inner_places groups.old ++ record { head = head; inner = places_of parts } ∷ []) }
 {
-    let mut groups = groups;
     groups.push(Group { head, parts })?;
-    Ok(groups)
+    Ok(())
 }
 
 /// An if section that is open.
@@ -59,82 +57,72 @@ pub(crate) struct Nesting {
     pub(crate) parts: Parts,
 }
 
-/// The nodes with one more that stands within a group.
-fn stay(nesting: Nesting, node: u32) -> Result<Nesting, NoMemory>
-    ensures { IfOk result (Places nesting Role.Within node 0 0) }
+/// Places a node that stands within a group.
+fn stay(nesting: &mut Nesting, node: u32) -> Result<(), NoMemory>
+    ensures { OnOk result (Places nesting.old Role.Within node 0 0 nesting.new) }
 {
-    let Nesting { frames, parts } = nesting;
-    let parts = with_plain(parts, node)?;
-    Ok(Nesting { frames, parts })
+    push_plain(&mut nesting.parts, node)
 }
 
-/// The nodes with one more that opens a section.
-fn open_section(alloc: Global, nesting: Nesting, node: u32) -> Result<Nesting, NoMemory>
-    ensures { IfOk result (Places nesting Role.Opens node 0 1) }
+/// Places a node that opens a section.
+fn open_section(alloc: Global, nesting: &mut Nesting, node: u32) -> Result<(), NoMemory>
+    ensures { OnOk result (Places nesting.old Role.Opens node 0 1 nesting.new) }
 {
-    let Nesting { mut frames, parts } = nesting;
-    let frame = Frame {
-        before: parts,
+    let before = mem::replace(&mut nesting.parts, Items::new(alloc));
+    nesting.frames.push(Frame {
+        before,
         groups: Items::new(alloc),
         head: node,
-    };
-    frames.push(frame)?;
-    Ok(Nesting {
-        frames,
-        parts: Items::new(alloc),
-    })
+    })?;
+    Ok(())
 }
 
-/// The nodes with one more that begins a further group of the innermost section.
-fn turn_section(alloc: Global, nesting: Nesting, node: u32) -> Result<Nesting, NoMemory>
-    requires { 0 < length nesting.frames.items }
-    ensures { IfOk result (Places nesting Role.Turns node 0 0) }
+/// Places a node that begins a further group of the innermost section.
+fn turn_section(alloc: Global, nesting: &mut Nesting, node: u32) -> Result<(), NoMemory>
+    requires { 0 < length nesting.old.frames.items }
+    ensures { OnOk result (Places nesting.old Role.Turns node 0 0 nesting.new) }
 {
-    let Nesting { mut frames, parts } = nesting;
-    let Some(frame) = frames.pop() else {
+    let parts = mem::replace(&mut nesting.parts, Items::new(alloc));
+    let Some(frame) = nesting.frames.pop() else {
         unreachable!()
     };
     let Frame {
         before,
-        groups,
+        mut groups,
         head,
     } = frame;
-    let groups = with_group(groups, head, parts)?;
-    let frame = Frame {
+    push_group(&mut groups, head, parts)?;
+    nesting.frames.push(Frame {
         before,
         groups,
         head: node,
-    };
-    frames.push(frame)?;
-    Ok(Nesting {
-        frames,
-        parts: Items::new(alloc),
-    })
+    })?;
+    Ok(())
 }
 
-/// The nodes with one more that closes the innermost section.
-fn close_section(nesting: Nesting, node: u32) -> Result<Nesting, NoMemory>
-    requires { 0 < length nesting.frames.items }
-    ensures { IfOk result (Places nesting Role.Closes node 1 0) }
+/// Places a node that closes the innermost section.
+fn close_section(nesting: &mut Nesting, node: u32) -> Result<(), NoMemory>
+    requires { 0 < length nesting.old.frames.items }
+    ensures { OnOk result (Places nesting.old Role.Closes node 1 0 nesting.new) }
 {
-    let Nesting { mut frames, parts } = nesting;
-    let Some(frame) = frames.pop() else {
+    let Some(frame) = nesting.frames.pop() else {
         unreachable!()
     };
     let Frame {
         before,
-        groups,
+        mut groups,
         head,
     } = frame;
-    let groups = with_group(groups, head, parts)?;
-    let parts = with_section(before, groups, node)?;
-    Ok(Nesting { frames, parts })
+    let parts = mem::replace(&mut nesting.parts, before);
+    push_group(&mut groups, head, parts)?;
+    push_section(&mut nesting.parts, groups, node)?;
+    Ok(())
 }
 
-/// The nodes with one more in its role.
-fn place(alloc: Global, nesting: Nesting, role: Role, node: u32) -> Result<Nesting, NoMemory>
-    requires { MayStand role (length nesting.frames.items) }
-    ensures { IfOk result (IsPlaced nesting role node) }
+/// Places a node in its role.
+fn place(alloc: Global, nesting: &mut Nesting, role: Role, node: u32) -> Result<(), NoMemory>
+    requires { MayStand role (length nesting.old.frames.items) }
+    ensures { OnOk result (IsPlaced nesting.old role node nesting.new) }
 {
     match role {
         Role::Within => stay(nesting, node),
@@ -155,7 +143,12 @@ pub(crate) fn nest(alloc: Global, nodes: &Nodes) -> Result<Parts, NoMemory>
         parts: Items::new(alloc),
     };
     for i in 0..nodes.len() {
-        nesting = place(alloc, nesting, find_role(nodes.kind(i)), i as u32 + 1)?;
+        place(
+            alloc,
+            &mut nesting,
+            find_role(nodes.kind(i)),
+            i as u32 + 1,
+        )?;
     }
     let Nesting { frames: _, parts } = nesting;
     Ok(parts)

@@ -5,7 +5,8 @@ use Rattle.cb_tree.proofs.nesting.close_section.Goals as goal
 
 pub returns : goal.returns
 returns c = record {
-  places = closed c.args.nesting.frames.items c.pop.new.self.items c.in-Some.frame.before c.args.nesting.parts c.in_ok-parts.parts c.in-Some.frame.groups c.in_ok-groups.groups
-      c.in-Some.frame.head c.args.node c.in-Some.ensures.items c.in_ok-groups.ensures c.in_ok-parts.ensures;
+  places = closed c.args.nesting.now.frames.items c.pop.new.self.items c.in-Some.frame.before c.args.nesting.now.parts c.push_section.new.parts c.in-Some.frame.groups
+      c.push_group.new.groups c.in-Some.frame.head c.args.node c.in-Some.ensures.items (rw c.replace-parts.ensures.value at c.in_ok-push_group.ensures)
+      (rw c.replace-parts.ensures.after at c.in_ok-push_section.ensures);
   depth = omega (arith, ap length c.in-Some.ensures.items, length-append {A = Frame});
 }
