@@ -1,5 +1,5 @@
 -- A directive line, piece by piece.
-use Rattle.std.proofs.Common.{◌≡◌, ℕ, Bool, true, false, List, [], ◌∷◌, ◌++◌, take, drop, map, refl, ap, sym, subst, ◌∙◌, append_assoc}
+use Rattle.std.proofs.Common.{◌≡◌, ℕ, Bool, true, false, List, [], ◌∷◌, ◌++◌, take, drop, map, Option, Some, refl, ap, sym, subst, ◌∙◌, append_assoc}
 use Rattle.std.proofs.lemmas.List.{append-nil}
 use Rattle.cb_lines.specs.declared.mark.Mark.{Mark}
 use Rattle.cb_lines.specs.Marks.{bytes_of}
@@ -15,15 +15,16 @@ use Rattle.cb_tree.specs.declared.fault.BuildFault.{BuildFault}
 use Rattle.cb_tree.specs.declared.fault.BuildFault.TheVariants.{Bad, NoMemory}
 use Rattle.cb_tree.specs.Kinds.{is_hash_text}
 use Rattle.cb_tree.specs.Nodes.{nodes_of}
-use Rattle.cb_tree.specs.Reads.{Reads, ReadsDirective, Directive, node_in_brief, briefs_of, directive_on, directive_node, Tells}
+use Rattle.cb_tree.specs.declared.node.NodeKind.{NodeKind}
+use Rattle.cb_tree.specs.declared.opening.Hash.{Hash}
+use Rattle.cb_tokens.specs.declared.token.TokenKind.TheVariants as token
+use Rattle.cb_tree.specs.Heads.{IsNamed, has_name, hash_text, hash_token, lead}
+use Rattle.cb_tree.proofs.Hash.{hash_kind}
+use Rattle.cb_tree.specs.Reads.{Reads, ReadsDirective, DirectiveStands, DirectiveGoes, Directive, node_in_brief, briefs_of, directive_on, directive_node, Tells}
 use Rattle.cb_tree.proofs.Pieces.{passes, Cuts-trans, cut_of_none, open_after}
 use Rattle.cb_tree.proofs.Briefs.{in_brief}
 use Rattle.cb_tree.proofs.BriefSteps.{directive_begins, directive_goes, directive_ends}
 use Rattle.cb_tree.proofs.Runs.{counted_more, same_text}
-
--- a token behind those of the line, which stand behind others
-pub kept_behind : (all before own : List Token) (t : Token) → all ≡ before ++ own → all ++ t ∷ [] ≡ before ++ (own ++ t ∷ [])
-kept_behind all before own t e = ap (λ (ts : List Token). ts ++ t ∷ []) e ∙ append_assoc before own (t ∷ [])
 
 -- a piece of a directive line
 directive_piece : (ms : List Mark) (tokens : List Token) (spaced : Bool) (counted : List ℕ) (rest : List Mark) (k : PieceKind) (n : ℕ)
@@ -116,3 +117,54 @@ pub directive_tells : (ms : List Mark) (tokens : List Token) (spaced : Bool) (co
     → ReadsDirective ms tokens spaced counted rest → Tells rest fault → Tells ms fault
 directive_tells ms tokens spaced counted rest (Bad fault) line h = (h.0, open_after ms line.pieces rest fault.line line.cut h.1)
 directive_tells ms tokens spaced counted rest NoMemory line h = tt
+
+-- nothing is read on yet
+pub goes_none : (spaced : Bool) (counted : List ℕ) (from : List Mark) (before : List Token) → DirectiveGoes spaced counted from before before (Some spaced) counted from
+goes_none spaced counted from before = record {
+  kept = [];
+  added = sym (append-nil before);
+  goes = λ ms own line. rw (append-nil own) line;
+}
+
+stands_as : (ms : List Mark) (own own' : List Token) (next : Option Bool) (counted : List ℕ) (rest : List Mark) → own ≡ own'
+    → DirectiveStands ms own next counted rest → DirectiveStands ms own' next counted rest
+stands_as ms own own' next counted rest e h = subst (λ (ts : List Token). DirectiveStands ms ts next counted rest) e h
+
+-- one reading on after another
+pub goes_on : (spaced spaced' : Bool) (counted counted' counted'' : List ℕ) (from mid rest : List Mark) (before between after : List Token) (next : Option Bool)
+    → DirectiveGoes spaced counted from before between (Some spaced') counted' mid → DirectiveGoes spaced' counted' mid between after next counted'' rest
+    → DirectiveGoes spaced counted from before after next counted'' rest
+goes_on spaced spaced' counted counted' counted'' from mid rest before between after next a b = record {
+  kept = a.kept ++ b.kept;
+  added = b.added ∙ (ap (λ (ts : List Token). ts ++ b.kept) a.added ∙ append_assoc before a.kept b.kept);
+  goes = λ ms own line.
+      stands_as ms ((own ++ a.kept) ++ b.kept) (own ++ (a.kept ++ b.kept)) next counted'' rest (append_assoc own a.kept b.kept)
+      (b.goes ms (own ++ a.kept) (a.goes ms own line));
+}
+
+-- a directive whose name tells its kind is this node
+pub named_node : (j : TokenKind) (kind : NodeKind) (hash : Hash) (spaced : Bool) (text : List ℕ) (kept : List Token) (counted : List ℕ) → j ≡ token.Identifier → IsNamed text kind
+    → directive_node ((hash_token hash ∷ record { kind = j; text = text; spaced = spaced } ∷ []) ++ kept) counted
+    ≡ record { kind = kind; tokens = lead kind hash spaced ++ kept; counted = counted }
+named_node j kind hash spaced text kept counted e n = rw (e, n.kind_is kept, n.known, n.name_is) refl
+
+-- one whose name does not tell it keeps all its tokens
+pub no_lead : (kind : NodeKind) (hash : Hash) (spaced : Bool) (own : List Token) → has_name kind ≡ false → own ≡ lead kind hash spaced ++ own
+no_lead kind hash spaced own h = rw h refl
+
+pub kept_all : (before one two after kept : List Token) (x y : Token) → one ≡ before ++ x ∷ [] → two ≡ one ++ y ∷ [] → after ≡ two ++ kept → after ≡ before ++ (x ∷ y ∷ kept)
+kept_all before one two after kept x y e f g =
+    g
+    ∙ (ap (λ (ts : List Token). ts ++ kept) (f ∙ ap (λ (ts : List Token). ts ++ y ∷ []) e)
+    ∙ (append_assoc (before ++ x ∷ []) (y ∷ []) kept ∙ append_assoc before (x ∷ []) (y ∷ kept)))
+
+-- the # of a directive by its spelling
+pub hash_start : (rest : List Mark) (j : TokenKind) (n : ℕ) (hash : Hash) (counted : List ℕ) (behind : List Mark)
+    → StandsFirst (bytes_of rest) (first.Piece (kinds.Token j) n) → is_hash_text (take n (bytes_of rest)) ≡ true → hash_text hash ≡ take n (bytes_of rest)
+    → counted ≡ with_lines (take n rest) [] → behind ≡ drop n rest → ReadsDirective rest (hash_token hash ∷ []) false counted behind
+hash_start rest j n hash counted behind h t e f g =
+    let k : j ≡ token.Punct = hash_kind (bytes_of rest) j n h t in
+    let same : record { kind = j; text = take n (bytes_of rest); spaced = false } ≡ hash_token hash =
+    ap (λ (x : TokenKind). record { kind = x; text = take n (bytes_of rest); spaced = false }) k
+    ∙ ap (λ (x : List ℕ). record { kind = token.Punct; text = x; spaced = false }) (sym e) in
+    rw (f, g) (subst (λ (x : Token). ReadsDirective rest (x ∷ []) false (with_lines (take n rest) []) (drop n rest)) same (directive_start rest j n (take n (bytes_of rest)) h refl t))

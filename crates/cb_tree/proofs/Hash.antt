@@ -11,7 +11,8 @@ use Rattle.cb_tokens.specs.declared.token.TokenKind.{TokenKind}
 use Rattle.cb_tokens.specs.declared.token.PieceKind.{PieceKind}
 use Rattle.cb_tokens.specs.declared.token.PieceKind.TheVariants as kinds
 use Rattle.cb_tokens.specs.declared.first.First.TheVariants as first
-use Rattle.cb_tokens.specs.Forms.{fits, is_white_run, is_white, is_comment, begins_with}
+use Rattle.cb_tokens.specs.declared.token.TokenKind.TheVariants as token
+use Rattle.cb_tokens.specs.Forms.{is_white, is_line_feed, is_name_start, is_name_byte, is_quote, is_identifier, continues_number, is_number_rest, is_number, closes, is_quoted, is_prefix_letter, is_character, is_string, punctuators, is_punctuator, stays_unclosed, is_unclosed, is_stray, is_white_run, begins_with, has_comment_end, ends_comment, is_comment, is_open_comment, fits}
 use Rattle.cb_tokens.specs.Cut.{Piece, IsFirst, StandsFirst, IsCut}
 use Rattle.cb_tree.specs.Kinds.{is_hash_text}
 use Rattle.cb_tree.proofs.Pieces.{some_bytes}
@@ -21,6 +22,31 @@ spellings : (text : List ℕ) → is_hash_text text ≡ true → (text ≡ codes
 unfolding is_hash_text
 spellings text h =
     (Decides-or (bytes_eq text (codes "#")) (bytes_eq text (codes "%:")) (bytes_eq-Decides text (codes "#")) (bytes_eq-Decides text (codes "%:"))).0 h
+
+-- what is not the one is the other
+pub digraph_left : (text : List ℕ) → is_hash_text text ≡ true → (text ≡ codes "#" → ⊥) → text ≡ codes "%:"
+digraph_left text h other = ⊎_elim (λ e. absurd (other e)) (λ e. e) (spellings text h)
+
+-- both are punctuators
+is_punctuator_kind : (j : TokenKind) → (fits (kinds.Token j) (codes "#") ≡ true) ⊎ (fits (kinds.Token j) (codes "%:") ≡ true) → j ≡ token.Punct
+unfolding is_white is_line_feed is_name_start is_name_byte is_quote is_identifier continues_number is_number_rest is_number closes is_quoted is_prefix_letter is_character is_string punctuators is_punctuator stays_unclosed is_unclosed is_stray is_white_run begins_with has_comment_end ends_comment is_comment is_open_comment fits
+is_punctuator_kind token.Identifier (inl h) = absurd (cc)
+is_punctuator_kind token.Identifier (inr h) = absurd (cc)
+is_punctuator_kind token.Number (inl h) = absurd (cc)
+is_punctuator_kind token.Number (inr h) = absurd (cc)
+is_punctuator_kind token.Char (inl h) = absurd (cc)
+is_punctuator_kind token.Char (inr h) = absurd (cc)
+is_punctuator_kind token.Str (inl h) = absurd (cc)
+is_punctuator_kind token.Str (inr h) = absurd (cc)
+is_punctuator_kind token.Punct h = refl
+is_punctuator_kind token.Other (inl h) = absurd (cc)
+is_punctuator_kind token.Other (inr h) = absurd (cc)
+
+pub hash_kind : (bs : List ℕ) (j : TokenKind) (n : ℕ) → StandsFirst bs (first.Piece (kinds.Token j) n) → is_hash_text (take n bs) ≡ true → j ≡ token.Punct
+hash_kind bs j n h t =
+    is_punctuator_kind j
+    (⊎_elim (λ e. inl (subst (λ (x : List ℕ). fits (kinds.Token j) x ≡ true) e h.1.holds)) (λ e. inr (subst (λ (x : List ℕ). fits (kinds.Token j) x ≡ true) e h.1.holds))
+    (spellings (take n bs) t))
 
 -- neither is white space, a comment or a line end
 not_blank : (k : PieceKind) → (fits k (codes "#") ≡ true) ⊎ (fits k (codes "%:") ≡ true) → (j : TokenKind) × (k ≡ kinds.Token j)

@@ -1,13 +1,15 @@
 -- Nodes whose tokens lie one behind another.
-use Rattle.std.proofs.Common.{◌≡◌, ℕ, ◌+◌, ◌-◌, ◌<◌, ◌≤◌, List, [], ◌∷◌, ◌++◌, length, get_or, take, drop, map, Some, refl, ap, sym, ◌∙◌, arith, length-append, length-drop}
+use Rattle.std.proofs.Common.{◌≡◌, ℕ, Bool, true, false, if◌then◌else◌, subst, ◌+◌, ◌-◌, ◌<◌, ◌≤◌, List, [], ◌∷◌, ◌++◌, length, get_or, take, drop, map, Option, Some, refl, ap, sym, ◌∙◌, arith, length-append, length-drop}
 use Prim.Native.Nat.{zero, suc}
 use Rattle.std.specs.Prelude.{slice_get}
-use Rattle.std.specs.Option.{option_map}
 use Rattle.std.proofs.lemmas.List.{map-append, take_all, drop_all, take-append-le, drop-append-le}
 use Rattle.cb_tokens.specs.declared.token.Token.{Token}
 use Rattle.cb_tree.specs.declared.nodes.Head.{Head}
-use Rattle.cb_tree.specs.Nodes.{Node}
-use Rattle.cb_tree.specs.Heads.{node_with, node_in, AreWithin, Adds}
+use Rattle.cb_tree.specs.declared.node.NodeKind.{NodeKind}
+use Rattle.cb_tree.specs.declared.opening.Hash.{Hash}
+use Rattle.cb_tree.specs.Kinds.{rest_of}
+use Rattle.cb_tree.specs.Skeleton.{Bone, bone_of}
+use Rattle.cb_tree.specs.Heads.{has_name, hash_token, name_token, lead, node_with, node_in, AreWithin, Adds}
 
 -- more tokens behind them change no node
 pub nodes_kept : (heads : List Head) (tokens own : List Token) → AreWithin (length tokens) heads → map (node_in (tokens ++ own)) heads ≡ map (node_in tokens) heads
@@ -16,7 +18,7 @@ nodes_kept (h ∷ hs) tokens own w =
     let e : take (h.to - h.from) (drop h.from (tokens ++ own)) ≡ take (h.to - h.from) (drop h.from tokens) =
     ap (take (h.to - h.from)) (drop-append-le h.from tokens own (omega (arith, w.0)))
     ∙ take-append-le (h.to - h.from) (drop h.from tokens) own (omega (arith, w.0, length-drop h.from tokens)) in
-    ap (λ ts. node_with ts h ∷ map (node_in (tokens ++ own)) hs) e
+    ap (λ ts. node_with (lead h.kind h.hash h.spaced ++ ts) h ∷ map (node_in (tokens ++ own)) hs) e
     ∙ ap (λ ns. node_in tokens h ∷ ns) (nodes_kept hs tokens own w.1)
 
 -- what stands behind the first tokens
@@ -36,16 +38,18 @@ own_part all before own to from e f t =
     ap (λ (n : ℕ). take (to - from) (drop n all)) f
     ∙ (ap (take (to - from)) (behind_first all before own e) ∙ take_all (to - from) own (omega (arith, len, f, t)))
 
--- the node whose tokens are added
-own_tokens : (before after : List Token) (head : Head) (own : List Token) → Adds before after head own → take (head.to - head.from) (drop head.from after) ≡ own
-own_tokens before after head own a = own_part after before own head.to head.from a.added a.from_is a.to_is
+-- the node that is added
+own_tokens : (before after : List Token) (head : Head) (own : List Token) → Adds before after head own
+    → lead head.kind head.hash head.spaced ++ take (head.to - head.from) (drop head.from after) ≡ own
+own_tokens before after head own a =
+    ap (λ (ts : List Token). lead head.kind head.hash head.spaced ++ ts) (own_part after before a.kept head.to head.from a.added a.from_is a.to_is) ∙ sym a.own_is
 
 pub nodes_more : (heads : List Head) (head : Head) (before after own : List Token) → AreWithin (length before) heads → Adds before after head own
     → map (node_in after) (heads ++ head ∷ []) ≡ map (node_in before) heads ++ node_with own head ∷ []
 nodes_more heads head before after own w a =
     map-append (node_in after) heads (head ∷ [])
     ∙ (ap (λ ts. map (node_in ts) heads ++ node_in after head ∷ []) a.added
-    ∙ (ap (λ ns. ns ++ node_in after head ∷ []) (nodes_kept heads before own w)
+    ∙ (ap (λ ns. ns ++ node_in after head ∷ []) (nodes_kept heads before a.kept w)
     ∙ ap (λ ts. map (node_in before) heads ++ node_with ts head ∷ []) (own_tokens before after head own a)))
 
 -- the tokens of each node lie among them
@@ -60,7 +64,7 @@ within_last (h ∷ hs) head count low high w = (w.0, within_last hs head count l
 pub all_within : (heads : List Head) (head : Head) (before after own : List Token) → AreWithin (length before) heads → Adds before after head own
     → AreWithin (length after) (heads ++ head ∷ [])
 all_within heads head before after own w a =
-    let len : length after ≡ length before + length own = ap length a.added ∙ length-append before own in
+    let len : length after ≡ length before + length a.kept = ap length a.added ∙ length-append before a.kept in
     within_last heads head (length after) (omega (arith, a.from_is, a.to_is, len)) (omega (arith, a.to_is))
     (within_more heads (length before) (length after) (omega (arith, len)) w)
 
@@ -69,8 +73,50 @@ within_at [] count i h w lt e = absurd (omega arith)
 within_at (x ∷ xs) count zero h w lt e = rw e w.0
 within_at (x ∷ xs) count (suc i) h w lt e = within_at xs count i h w.1 (omega arith) e
 
-pub tokens_at : (heads : List Head) (tokens : List Token) (i : ℕ) (h : Head) → i < length heads → h ≡ get_or heads i h
-    → option_map (λ (n : Node). n.tokens) (slice_get (map (node_in tokens) heads) i) ≡ Some (take (h.to - h.from) (drop h.from tokens))
-tokens_at [] tokens i h lt e = absurd (omega arith)
-tokens_at (x ∷ xs) tokens zero h lt e = ap (λ (y : Head). Some (take (y.to - y.from) (drop y.from tokens))) (sym e)
-tokens_at (x ∷ xs) tokens (suc i) h lt e = tokens_at xs tokens i h (omega arith) e
+-- the node at a place
+pub node_at : (heads : List Head) (tokens : List Token) (i : ℕ) (h : Head) → i < length heads → h ≡ get_or heads i h
+    → slice_get (map (node_in tokens) heads) i ≡ Some (node_in tokens h)
+node_at [] tokens i h lt e = absurd (omega arith)
+node_at (x ∷ xs) tokens zero h lt e = ap (λ (y : Head). Some (node_in tokens y)) (sym e)
+node_at (x ∷ xs) tokens (suc i) h lt e = node_at xs tokens i h (omega arith) e
+
+-- what of it stands behind its name
+pub rest_of_named : (kind : NodeKind) (hash : Hash) (spaced : Bool) (kept : List Token) → has_name kind ≡ true → rest_of (lead kind hash spaced ++ kept) ≡ kept
+rest_of_named kind hash spaced kept h = rw h refl
+
+pub rest_of_other : (kind : NodeKind) (hash : Hash) (spaced : Bool) (kept : List Token) → has_name kind ≡ false → rest_of (lead kind hash spaced ++ kept) ≡ rest_of kept
+rest_of_other kind hash spaced kept h = rw h refl
+
+-- its tokens in two parts
+abbrev first_two : Bool → Token → Token → List Token
+first_two b x y = if b then x ∷ y ∷ [] else []
+
+parted : (b : Bool) (x y x' y' : Token) (ts ts' : List Token) → first_two b x y ++ ts ≡ first_two b x' y' ++ ts'
+    → (first_two b x y ≡ first_two b x' y') × (ts ≡ ts')
+parted false x y x' y' ts ts' h = (refl, h)
+parted true x y x' y' ts ts' h =
+    let e : x ≡ x' = cc in
+    let f : y ≡ y' = cc in
+    let g : ts ≡ ts' = cc in
+    (ap (λ (t : Token). t ∷ y ∷ []) e ∙ ap (λ (t : Token). x' ∷ t ∷ []) f, g)
+
+-- two nodes agree but for their lines where their parts agree
+pub same_parts : (a b : Head) (ts ts' : List Token) → a.kind ≡ b.kind → lead a.kind a.hash a.spaced ≡ lead b.kind b.hash b.spaced → ts ≡ ts'
+    → bone_of (node_with (lead a.kind a.hash a.spaced ++ ts) a) ≡ bone_of (node_with (lead b.kind b.hash b.spaced ++ ts') b)
+same_parts a b ts ts' k l t = cc
+
+pub same_of_some : (x y : Bone) → ◌≡◌ {A = Option Bone} (Some x) (Some y) → x ≡ y
+same_of_some x y h = cc
+
+-- and only there
+pub same_bones : (a b : Head) (ts ts' : List Token)
+    → bone_of (node_with (lead a.kind a.hash a.spaced ++ ts) a) ≡ bone_of (node_with (lead b.kind b.hash b.spaced ++ ts') b)
+    → (a.kind ≡ b.kind) × (lead a.kind a.hash a.spaced ≡ lead b.kind b.hash b.spaced) × (ts ≡ ts')
+same_bones a b ts ts' h =
+    let k : a.kind ≡ b.kind = ap (λ (bone : Bone). bone.kind) h in
+    let t : lead a.kind a.hash a.spaced ++ ts ≡ lead b.kind b.hash b.spaced ++ ts' = ap (λ (bone : Bone). bone.tokens) h in
+    let P : NodeKind → Type 0 = λ kind. lead a.kind a.hash a.spaced ++ ts ≡ lead kind b.hash b.spaced ++ ts' in
+    let Q : NodeKind → Type 0 = λ kind. (lead a.kind a.hash a.spaced ≡ lead kind b.hash b.spaced) × (ts ≡ ts') in
+    let q : Q b.kind =
+    subst Q k (parted (has_name a.kind) (hash_token a.hash) (name_token a.kind a.spaced) (hash_token b.hash) (name_token a.kind b.spaced) ts ts' (subst P (sym k) t)) in
+    (k, q.0, q.1)

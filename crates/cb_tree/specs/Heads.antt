@@ -1,24 +1,92 @@
 -- How nodes are kept. No public clause names these words.
-use Rattle.std.specs.Prelude.{◌≡◌, ℕ, ◌-◌, ◌≤◌, List, [], ◌∷◌, ◌++◌, length, take, drop}
+use Rattle.std.specs.Prelude.{◌≡◌, ℕ, ◌-◌, ◌≤◌, Bool, true, false, if◌then◌else◌, List, [], ◌∷◌, ◌++◌, length, take, drop, codes}
 use Rattle.cb_tokens.specs.declared.token.Token.{Token}
+use Rattle.cb_tokens.specs.declared.token.TokenKind.TheVariants as token
+use Rattle.cb_tree.specs.declared.node.NodeKind.{NodeKind}
+use Rattle.cb_tree.specs.declared.node.NodeKind.TheVariants.{Text, If, Ifdef, Ifndef, Elif, Else, Endif, Define, Undef, Include, Once, Error, Other}
+use Rattle.cb_tree.specs.declared.opening.Hash.{Hash}
+use Rattle.cb_tree.specs.declared.opening.Hash.TheVariants.{Sign, Digraph}
 use Rattle.cb_tree.specs.declared.nodes.Head.{Head}
+use Rattle.std.specs.Str.{bytes_eq}
+use Rattle.cb_tree.specs.Kinds.{kind_of_name, begins_with_name}
 use Rattle.cb_tree.specs.Nodes.{Node}
+
+-- a directive of the kind is known by its name alone
+abbrev pub has_name : NodeKind → Bool
+has_name Text = false
+has_name If = true
+has_name Ifdef = true
+has_name Ifndef = true
+has_name Elif = true
+has_name Else = true
+has_name Endif = true
+has_name Define = true
+has_name Undef = true
+has_name Include = true
+has_name Once = false
+has_name Error = true
+has_name Other = false
+
+-- this name
+abbrev pub name_of : NodeKind → List ℕ
+name_of Text = []
+name_of If = codes "if"
+name_of Ifdef = codes "ifdef"
+name_of Ifndef = codes "ifndef"
+name_of Elif = codes "elif"
+name_of Else = codes "else"
+name_of Endif = codes "endif"
+name_of Define = codes "define"
+name_of Undef = codes "undef"
+name_of Include = codes "include"
+name_of Once = []
+name_of Error = codes "error"
+name_of Other = []
+
+-- the bytes are the name of the kind, whatever stands behind them
+pub record IsNamed (name : List ℕ) (kind : NodeKind) : Type 0 where
+  pub name_is : name ≡ name_of kind
+  pub known : has_name kind ≡ true
+  pub kind_is : (more : List Token) → kind_of_name name more ≡ kind
+
+-- the kind of a directive with any other name
+abbrev pub unnamed_kind : List ℕ → List Token → NodeKind
+unnamed_kind name more = if bytes_eq name (codes "pragma") then (if begins_with_name (codes "once") more then Once else Other) else Other
+
+-- the bytes of a #
+abbrev pub hash_text : Hash → List ℕ
+hash_text Sign = codes "#"
+hash_text Digraph = codes "%:"
+
+-- a #
+abbrev pub hash_token : Hash → Token
+hash_token hash = record { kind = token.Punct; spaced = false; text = hash_text hash }
+
+-- the name of a directive
+abbrev pub name_token : NodeKind → Bool → Token
+name_token kind spaced = record { kind = token.Identifier; spaced = spaced; text = name_of kind }
+
+-- the # and the name of a directive that is known by its name
+abbrev pub lead : NodeKind → Hash → Bool → List Token
+lead kind hash spaced = if has_name kind then hash_token hash ∷ name_token kind spaced ∷ [] else []
 
 -- a node of these tokens
 abbrev pub node_with : List Token → Head → Node
 node_with own h = record { kind = h.kind; tokens = own; counted = h.counted }
 
--- a node, where these are the tokens of all nodes
+-- a node, where these are the tokens that are kept of all nodes
 abbrev pub node_in : List Token → Head → Node
-node_in tokens h = node_with (take (h.to - h.from) (drop h.from tokens)) h
+node_in tokens h = node_with (lead h.kind h.hash h.spaced ++ take (h.to - h.from) (drop h.from tokens)) h
 
--- the tokens of each node lie among so many
+-- the tokens that are kept of each node lie among so many
 abbrev pub AreWithin : ℕ → List Head → Type 0
 AreWithin count [] = Unit {0}
 AreWithin count (h ∷ hs) = ((h.from ≤ h.to) × (h.to ≤ count)) × AreWithin count hs
 
--- a node's tokens are added to those of the nodes before it
+-- a node of these tokens is kept behind the nodes before it
 pub record Adds (before after : List Token) (head : Head) (own : List Token) : Type 0 where
-  pub added : after ≡ before ++ own
+  pub kept : List Token
+  pub added : after ≡ before ++ kept
   pub from_is : head.from ≡ length before
   pub to_is : head.to ≡ length after
+  pub own_is : own ≡ lead head.kind head.hash head.spaced ++ kept

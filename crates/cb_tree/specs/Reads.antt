@@ -18,6 +18,7 @@ use Rattle.cb_tree.specs.declared.reading.Ahead.{Ahead}
 use Rattle.cb_tree.specs.declared.reading.Start.{Start}
 use Rattle.cb_tree.specs.declared.reading.Place.{Place}
 use Rattle.cb_tree.specs.declared.reading.Place.TheVariants.{LineStart, InLine}
+use Rattle.cb_tree.specs.declared.opening.Second.{Second}
 use Rattle.cb_tree.specs.Kinds.{is_hash, kind_of}
 use Rattle.cb_tree.specs.Nodes.{Node, nodes_of, total_lines}
 use Rattle.cb_tree.specs.Heads.{Adds, node_with}
@@ -120,14 +121,31 @@ abbrev pub RunGoes : List Mark → Option Place → List ℕ → List Mark → T
 RunGoes ms None counted rest = Reads ms (text_node counted ∷ []) rest
 RunGoes ms (Some place) counted rest = ReadsRun ms place counted rest
 
--- a directive goes on, with the white space before its next token, or has ended and is a node
+-- a directive stands: it goes on, with the white space before its next token, or has ended and is a node
 abbrev pub DirectiveStands : List Mark → List Token → Option Bool → List ℕ → List Mark → Type 0
 DirectiveStands ms own None counted rest = Reads ms (directive_node own counted ∷ []) rest
 DirectiveStands ms own (Some spaced) counted rest = ReadsDirective ms own spaced counted rest
 
--- so does one whose tokens are kept behind those of the nodes before it
-abbrev pub DirectiveGoes : List Mark → List Token → List Token → Option Bool → List ℕ → List Mark → Type 0
-DirectiveGoes ms before after next counted rest = (own : List Token) × (after ≡ before ++ own) × DirectiveStands ms own next counted rest
+-- a directive is read on from some marks to others, and its tokens are kept behind those before them
+pub record DirectiveGoes (spaced : Bool) (counted : List ℕ) (from : List Mark) (before after : List Token) (next : Option Bool) (counted' : List ℕ) (rest : List Mark) : Type 0 where
+  pub kept : List Token
+  pub added : after ≡ before ++ kept
+  pub goes : (ms : List Mark) (own : List Token) → ReadsDirective ms own spaced counted from → DirectiveStands ms (own ++ kept) next counted' rest
+
+-- a token stands behind a #, or the directive has ended and is a node
+abbrev pub StandsBehind : List Mark → List Token → List ℕ → List Mark → Option Second → Type 0
+StandsBehind ms own counted rest None = Reads ms (directive_node own counted ∷ []) rest
+StandsBehind ms own counted rest (Some second) = ReadsDirective ms own second.spaced counted rest
+
+-- a directive that began with these tokens is a node, and is kept behind the nodes before it
+abbrev pub HeadReads : List Token → Bool → List ℕ → List Mark → List Token → List Token → List Mark → Head → Type 0
+HeadReads first spaced counted from before after rest head =
+    (ms : List Mark) → ReadsDirective ms first spaced counted from
+    → (own : List Token) × Adds before after head own × Reads ms (node_with own head ∷ []) rest
+
+-- or has a fault
+abbrev pub HeadTells : List Token → Bool → List ℕ → List Mark → BuildFault → Type 0
+HeadTells first spaced counted from fault = (ms : List Mark) → ReadsDirective ms first spaced counted from → Tells ms fault
 
 -- the next node is read and its tokens are kept, or the source has ended
 abbrev pub ReadsNode : List Mark → List Mark → List Token → List Token → Option Head → Type 0

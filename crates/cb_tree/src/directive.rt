@@ -1,17 +1,18 @@
 //! Directive lines: logical lines whose first token is `#` or `%:`.
-ghost use Rattle.std.specs.Prelude.{ℕ, ◌≡◌, ◌+◌, ◌<◌, ◌≤◌, ◌∷◌, ◌++◌, [], List, length, take, true, IfOk, IfErr, OnOk, MatchOption};
-ghost use Rattle.cb_lines.specs.declared.mark.Mark.{Mark};
+ghost use Rattle.std.specs.Prelude.{◌≡◌, ◌+◌, ◌<◌, ◌≤◌, ◌∷◌, ◌++◌, [], Bool, List, None, length, take, true, false, IfOk, IfErr, OnOk, MatchOption};
 ghost use Rattle.cb_lines.specs.Marks.{bytes_of};
 ghost use Rattle.cb_tokens.specs.Cut.{StandsFirst};
 ghost use Rattle.cb_tokens.specs.declared.first.First.{First};
-ghost use Rattle.cb_tree.specs.Kinds.{is_hash_text};
+ghost use Rattle.cb_tree.specs.Kinds.{is_hash_text, kind_behind_hash};
 ghost use Rattle.cb_tokens.specs.declared.token.Token.{Token};
-ghost use Rattle.cb_tree.specs.Heads.{Adds, node_with};
-ghost use Rattle.cb_tree.specs.Reads.{Reads, ReadsDirective, DirectiveGoes, Tells};
+ghost use Rattle.cb_tree.specs.Heads.{Adds, IsNamed, has_name, hash_token, node_with};
+ghost use Rattle.cb_tree.specs.Reads.{Reads, DirectiveGoes, HeadReads, HeadTells, Tells};
 
 use crate::fault::BuildFault;
 use crate::kind::kind_of;
+use crate::node::NodeKind;
 use crate::nodes::{Head, part};
+use crate::opening::{Hash, Second, hash_of, kind_ahead, pass_to_second};
 use crate::reading::{Start, look_ahead, pass_counted};
 use cb_lines::{Lines, Walk};
 use cb_paths::{Bytes, NoMemory};
@@ -41,8 +42,7 @@ fn pass_piece(
     counted: &mut Lines,
     spaced: bool,
 ) -> Result<Option<bool>, BuildFault>
-    ensures goes { IfOk result (λ next. (ms : List Mark) (before own : List Token) → tokens.old.items ≡ before ++ own
-        → ReadsDirective ms own spaced counted.old walk.old → DirectiveGoes ms before tokens.new.items next counted.new walk.new) }
+    ensures goes { IfOk result (λ next. DirectiveGoes spaced counted.old walk.old tokens.old.items tokens.new.items next counted.new walk.new) }
     ensures shorter { IfOk result (λ next. MatchOption next (length walk.new ≤ length walk.old) (λ _. length walk.new < length walk.old)) }
     ensures few { OnOk result (length counted.new + length walk.new ≤ length counted.old + length walk.old) }
     ensures tells { IfErr result (Tells walk.old) }
@@ -75,7 +75,149 @@ fn pass_piece(
     }
 }
 
-/// Reads a directive line from its `#` on, and adds its tokens to those of the nodes before it.
+/// Reads a directive line to its end, and keeps its tokens.
+fn read_behind(
+    alloc: Global,
+    walk: &mut Walk,
+    tokens: &mut Vec<Token>,
+    counted: &mut Lines,
+    spaced: bool,
+) -> Result<(), BuildFault>
+    ensures goes { OnOk result (DirectiveGoes spaced counted.old walk.old tokens.old.items tokens.new.items None counted.new walk.new) }
+    ensures shorter { OnOk result (length walk.new ≤ length walk.old) }
+    ensures few { OnOk result (length counted.new + length walk.new ≤ length counted.old + length walk.old) }
+    ensures tells { IfErr result (λ fault. (own : List Token) → HeadTells own spaced counted.old walk.old fault) }
+{
+    let mut spaced = spaced;
+    'pieces: loop {
+        match pass_piece(alloc, walk, tokens, counted, spaced)? {
+            Some(next) => spaced = next,
+            None => return Ok(()),
+        }
+    }
+}
+
+/// A directive line of a `#` alone.
+fn read_bare(
+    alloc: Global,
+    tokens: &mut Vec<Token>,
+    counted: Lines,
+    hash: Hash,
+) -> Result<Head, NoMemory>
+    ensures kept { IfOk result (λ head. Adds tokens.old.items tokens.new.items head (hash_token hash ∷ [])) }
+    ensures kind { IfOk result (λ head. head.kind ≡ NodeKind.Other) }
+    ensures counted { IfOk result (λ head. head.counted ≡ counted) }
+{
+    let from = tokens.len();
+    keep_token(alloc, tokens, TokenKind::Punct, hash.bytes(), false)?;
+    Ok(Head {
+        from,
+        to: tokens.len(),
+        kind: NodeKind::Other,
+        hash,
+        spaced: false,
+        counted,
+    })
+}
+
+/// Reads a directive line whose name tells its kind.
+fn read_named(
+    alloc: Global,
+    walk: &mut Walk,
+    tokens: &mut Vec<Token>,
+    counted: Lines,
+    hash: Hash,
+    name: Second,
+    kind: NodeKind,
+) -> Result<Head, BuildFault>
+    requires stands { StandsFirst (bytes_of walk.old) (First.Piece (PieceKind.Token name.token.kind) name.token.len) }
+    requires identifier { name.token.kind ≡ TokenKind.Identifier }
+    requires named { IsNamed (take name.token.len (bytes_of walk.old)) kind }
+    ensures reads { IfOk result (HeadReads (hash_token hash ∷ []) name.spaced counted walk.old tokens.old.items tokens.new.items walk.new) }
+    ensures shorter { OnOk result (length walk.new ≤ length walk.old) }
+    ensures few { IfOk result (λ head. length head.counted + length walk.new ≤ length counted + length walk.old) }
+    ensures tells { IfErr result (HeadTells (hash_token hash ∷ []) name.spaced counted walk.old) }
+{
+    let from = tokens.len();
+    let mut counted = counted;
+    pass_counted(walk, name.token, &mut counted)?;
+    read_behind(alloc, walk, tokens, &mut counted, false)?;
+    Ok(Head {
+        from,
+        to: tokens.len(),
+        kind,
+        hash,
+        spaced: name.spaced,
+        counted,
+    })
+}
+
+/// Reads a directive line whose second token does not tell its kind.
+fn read_other(
+    alloc: Global,
+    walk: &mut Walk,
+    tokens: &mut Vec<Token>,
+    counted: Lines,
+    hash: Hash,
+    second: Second,
+) -> Result<Head, BuildFault>
+    requires stands { StandsFirst (bytes_of walk.old) (First.Piece (PieceKind.Token second.token.kind) second.token.len) }
+    requires unnamed { (spaced : Bool) (more : List Token)
+        → has_name (kind_behind_hash (record { kind = second.token.kind; spaced = spaced; text = take second.token.len (bytes_of walk.old) } ∷ more)) ≡ false }
+    ensures reads { IfOk result (HeadReads (hash_token hash ∷ []) second.spaced counted walk.old tokens.old.items tokens.new.items walk.new) }
+    ensures shorter { OnOk result (length walk.new ≤ length walk.old) }
+    ensures few { IfOk result (λ head. length head.counted + length walk.new ≤ length counted + length walk.old) }
+    ensures tells { IfErr result (HeadTells (hash_token hash ∷ []) second.spaced counted walk.old) }
+{
+    let from = tokens.len();
+    let mut counted = counted;
+    keep_token(alloc, tokens, TokenKind::Punct, hash.bytes(), false)?;
+    let text = &walk.rest()[..second.token.len];
+    keep_token(alloc, tokens, second.token.kind, text, second.spaced)?;
+    pass_counted(walk, second.token, &mut counted)?;
+    read_behind(alloc, walk, tokens, &mut counted, false)?;
+    let to = tokens.len();
+    let kind = kind_of(part(tokens.as_slice(), from, to));
+    Ok(Head {
+        from,
+        to,
+        kind,
+        hash,
+        spaced: false,
+        counted,
+    })
+}
+
+/// Reads a directive line behind its `#`.
+fn read_behind_hash(
+    alloc: Global,
+    walk: &mut Walk,
+    tokens: &mut Vec<Token>,
+    counted: Lines,
+    hash: Hash,
+) -> Result<Head, BuildFault>
+    ensures reads { IfOk result (HeadReads (hash_token hash ∷ []) false counted walk.old tokens.old.items tokens.new.items walk.new) }
+    ensures shorter { OnOk result (length walk.new ≤ length walk.old) }
+    ensures few { IfOk result (λ head. length head.counted + length walk.new ≤ length counted + length walk.old) }
+    ensures tells { IfErr result (HeadTells (hash_token hash ∷ []) false counted walk.old) }
+{
+    let Some(second) = pass_to_second(walk)? else {
+        let head = read_bare(alloc, tokens, counted, hash)?;
+        return Ok(head);
+    };
+    match kind_ahead(walk, second.token) {
+        Some(kind) => {
+            let head = read_named(alloc, walk, tokens, counted, hash, second, kind)?;
+            Ok(head)
+        }
+        None => {
+            let head = read_other(alloc, walk, tokens, counted, hash, second)?;
+            Ok(head)
+        }
+    }
+}
+
+/// Reads a directive line from its `#` on, and keeps its tokens behind those of the nodes before it.
 pub(crate) fn read_directive(
     alloc: Global,
     walk: &mut Walk,
@@ -89,29 +231,9 @@ pub(crate) fn read_directive(
     ensures few { IfOk result (λ head. length head.counted + length walk.new ≤ length walk.old) }
     ensures tells { IfErr result (Tells walk.old) }
 {
-    let from = tokens.len();
+    let hash = hash_of(&walk.rest()[..token.len]);
     let mut counted = Lines::new(alloc);
-    keep_token(
-        alloc,
-        tokens,
-        token.kind,
-        &walk.rest()[..token.len],
-        false,
-    )?;
     pass_counted(walk, token, &mut counted)?;
-    let mut spaced = false;
-    'pieces: loop {
-        match pass_piece(alloc, walk, tokens, &mut counted, spaced)? {
-            Some(next) => spaced = next,
-            None => break,
-        }
-    }
-    let to = tokens.len();
-    let kind = kind_of(part(tokens.as_slice(), from, to));
-    Ok(Head {
-        from,
-        to,
-        kind,
-        counted,
-    })
+    let head = read_behind_hash(alloc, walk, tokens, counted, hash)?;
+    Ok(head)
 }

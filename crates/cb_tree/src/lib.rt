@@ -9,6 +9,7 @@ mod kind;
 mod nesting;
 mod node;
 mod nodes;
+mod opening;
 mod part;
 mod reading;
 mod role;

@@ -1,21 +1,31 @@
 //! The nodes of a source, with the tokens of all directives in one list.
-ghost use Rattle.std.specs.Prelude.{◌≡◌, ◌-◌, ◌<◌, ◌≤◌, length, take, drop, slice_get, Some};
+ghost use Rattle.std.specs.Prelude.{◌≡◌, ◌-◌, ◌<◌, ◌≤◌, ◌↔◌, ◌++◌, length, take, drop, slice_get, Some, IsTrue};
 ghost use Rattle.std.specs.Option.{option_map};
+ghost use Rattle.cb_tree.specs.Heads.{lead, node_with};
+ghost use Rattle.cb_tree.specs.Nodes.{node_rest};
+ghost use Rattle.cb_tree.specs.Skeleton.{bone_of};
 
+use crate::kind::{has_name, rest};
 use crate::node::NodeKind;
+use crate::opening::Hash;
+use crate::skeleton::are_same_tokens;
 use cb_lines::Lines;
 use cb_tokens::Token;
 use std::marker::Model;
 
-/// A node but for its tokens, which lie among those of all nodes.
+/// A node but for its tokens, of which those that do not follow from its kind lie among the tokens of all nodes.
 #[derive(Drop)]
 pub(crate) struct Head {
-    /// The number of the tokens of all nodes before it.
+    /// The number of the tokens that are kept of the nodes before it.
     pub(crate) from: usize,
-    /// The number of the tokens of all nodes up to it, its own among them.
+    /// The number of the tokens that are kept of the nodes up to it.
     pub(crate) to: usize,
     /// Its kind.
     pub(crate) kind: NodeKind,
+    /// The spelling of its `#`, where its name tells its kind.
+    pub(crate) hash: Hash,
+    /// Whether its name is spaced, where this tells its kind.
+    pub(crate) spaced: bool,
     /// The set of its counted lines.
     pub(crate) counted: Lines,
 }
@@ -50,6 +60,13 @@ pub(crate) fn part(tokens: &[Token], from: usize, to: usize) -> &[Token]
     &tokens[from..to]
 }
 
+/// Whether two nodes agree in kind, and in the tokens that are not kept.
+fn are_same_heads(a: &Head, b: &Head) -> bool
+    ensures { IsTrue result ↔ ((a.now.kind ≡ b.now.kind) × (lead a.now.kind a.now.hash a.now.spaced ≡ lead b.now.kind b.now.hash b.now.spaced)) }
+{
+    a.kind == b.kind && (!has_name(a.kind) || (a.hash == b.hash && a.spaced == b.spaced))
+}
+
 impl Nodes {
     /// The number of nodes.
     pub(crate) fn len(&self) -> usize
@@ -66,13 +83,36 @@ impl Nodes {
         self.heads[at].kind
     }
 
-    /// All tokens of a directive, none of text.
-    pub(crate) fn tokens(&self, at: usize) -> &[Token]
+    /// A node but for its tokens, and those of them that are kept.
+    fn kept(&self, at: usize) -> (&Head, &[Token])
         requires { at < length self.now }
-        ensures { option_map (λ n. n.tokens) (slice_get self.now at) ≡ Some result.now }
+        ensures { slice_get self.now at ≡ Some (node_with (lead result.0.now.kind result.0.now.hash result.0.now.spaced ++ result.1.now) result.0.now) }
     {
         let head = &self.heads[at];
-        part(self.tokens.as_slice(), head.from, head.to)
+        (head, part(self.tokens.as_slice(), head.from, head.to))
+    }
+
+    /// The tokens of a directive behind its name, or behind its `#` where no identifier follows that; none of text.
+    pub(crate) fn rest(&self, at: usize) -> &[Token]
+        requires { at < length self.now }
+        ensures { option_map node_rest (slice_get self.now at) ≡ Some result.now }
+    {
+        let (head, kept) = self.kept(at);
+        if has_name(head.kind) {
+            kept
+        } else {
+            rest(kept)
+        }
+    }
+
+    /// Whether a node agrees with one of another list but for their lines.
+    pub(crate) fn has_same_bone(&self, other: &Nodes, at: usize) -> bool
+        requires { (at < length self.now) × (at < length other.now) }
+        ensures { IsTrue result ↔ (option_map bone_of (slice_get self.now at) ≡ option_map bone_of (slice_get other.now at)) }
+    {
+        let (a, own) = self.kept(at);
+        let (b, others) = other.kept(at);
+        are_same_heads(a, b) && are_same_tokens(own, others)
     }
 
     /// The set of the counted lines of a node.

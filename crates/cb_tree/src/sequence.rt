@@ -7,6 +7,7 @@ use crate::fault::BuildFault;
 use crate::kind::is_hash_text;
 use crate::node::NodeKind;
 use crate::nodes::{Head, Nodes};
+use crate::opening::Hash;
 use crate::reading::{look_ahead, skip_white};
 use crate::run::read_run;
 use crate::sections::Sections;
@@ -37,6 +38,8 @@ fn read_node(
         from: count,
         to: count,
         kind: NodeKind::Text,
+        hash: Hash::Sign,
+        spaced: false,
         counted,
     }))
 }

@@ -1,7 +1,6 @@
 //! Whether two trees agree in all that is no text and no line.
-ghost use Rattle.std.specs.Prelude.{◌≡◌, ◌<◌, ◌↔◌, IsTrue, length, slice_get};
-ghost use Rattle.std.specs.Option.{option_map};
-ghost use Rattle.cb_tree.specs.Skeleton.{bone_of, skeleton};
+ghost use Rattle.std.specs.Prelude.{◌≡◌, ◌↔◌, IsTrue};
+ghost use Rattle.cb_tree.specs.Skeleton.{skeleton};
 
 use crate::nodes::Nodes;
 use cb_tokens::Token;
@@ -14,7 +13,7 @@ fn is_same_token(a: &Token, b: &Token) -> bool
 }
 
 /// Whether two lists of tokens agree.
-fn are_same_tokens(a: &[Token], b: &[Token]) -> bool
+pub(crate) fn are_same_tokens(a: &[Token], b: &[Token]) -> bool
     ensures { IsTrue result ↔ (a.now ≡ b.now) }
 {
     if a.len() != b.len() {
@@ -28,14 +27,6 @@ fn are_same_tokens(a: &[Token], b: &[Token]) -> bool
     true
 }
 
-/// Whether two nodes agree but for their lines.
-fn is_same_bone(a: &Nodes, b: &Nodes, at: usize) -> bool
-    requires { (at < length a.now) × (at < length b.now) }
-    ensures { IsTrue result ↔ (option_map bone_of (slice_get a.now at) ≡ option_map bone_of (slice_get b.now at)) }
-{
-    a.kind(at) == b.kind(at) && are_same_tokens(a.tokens(at), b.tokens(at))
-}
-
 /// Whether two lists of nodes agree but for their lines.
 pub(crate) fn are_same_bones(a: &Nodes, b: &Nodes) -> bool
     ensures { IsTrue result ↔ (skeleton a.now ≡ skeleton b.now) }
@@ -44,7 +35,7 @@ pub(crate) fn are_same_bones(a: &Nodes, b: &Nodes) -> bool
         return false;
     }
     for i in 0..a.len() {
-        if !is_same_bone(a, b, i) {
+        if !a.has_same_bone(b, i) {
             return false;
         }
     }

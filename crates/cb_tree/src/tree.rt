@@ -8,7 +8,6 @@ ghost use Rattle.cb_tree.specs.Groups.{kinds_of, opens_group, group_end_of};
 ghost use Rattle.cb_tree.specs.Nesting.{places_of, places_from};
 ghost use Rattle.cb_tree.specs.Skeleton.{skeleton};
 
-use crate::kind;
 use crate::node::NodeKind;
 use crate::nodes::Nodes;
 use crate::part::{Part, Parts};
@@ -101,7 +100,7 @@ impl Tree {
         requires { (1 ≤ node) × (node ≤ length self.now) }
         ensures { option_map node_rest (slice_get self.now (node - 1)) ≡ Some result.now }
     {
-        kind::rest(self.nodes.tokens(node as usize - 1))
+        self.nodes.rest(node as usize - 1)
     }
 
     /// The set of the physical lines on which a byte of a token of the node stands.

@@ -1,4 +1,4 @@
-use Rattle.std.proofs.Common.{[], ◌∙◌, sym, arith}
+use Rattle.std.proofs.Common.{[], refl, ◌∙◌, sym, arith}
 use Rattle.std.proofs.lemmas.List.{append-nil}
 use Rattle.std.proofs.lemmas.Result.{err_from_is_err_and}
 use Rattle.cb_tree.proofs.ReadsMore.{reads_on, tells_after}
@@ -26,7 +26,7 @@ returns-in_err-counted-clause-tells c =
 
 pub returns-clause-reads : goal.returns-clause-reads
 returns-clause-reads c = (
-  ([], record { added = sym (append-nil c.args.tokens.now.items); from_is = c.len-count.ensures ∙ c.args.tokens.now.ok.0; to_is = c.len-count.ensures ∙ c.args.tokens.now.ok.0 }, reads_on c.args.walk.now [] c.skip_white.new.walk _ c.read_run.new.walk c.in_ok-token.ensures.reads c.in_ok-counted.ensures.reads),
+  ([], record { kept = []; added = sym (append-nil c.args.tokens.now.items); own_is = refl; from_is = c.len-count.ensures ∙ c.args.tokens.now.ok.0; to_is = c.len-count.ensures ∙ c.args.tokens.now.ok.0 }, reads_on c.args.walk.now [] c.skip_white.new.walk _ c.read_run.new.walk c.in_ok-token.ensures.reads c.in_ok-counted.ensures.reads),
   omega (arith, reads_shorter c.args.walk.now [] c.skip_white.new.walk c.in_ok-token.ensures.reads, c.in_ok-counted.ensures.shorter),
   omega (arith, reads_shorter c.args.walk.now [] c.skip_white.new.walk c.in_ok-token.ensures.reads, c.in_ok-counted.ensures.few),
 )
