@@ -50,8 +50,9 @@ impl Lines {
         }
     }
 
-    /// Adds a line, which the set may hold already; a line on the last run, or behind all others, takes no search. Its one error is want of memory,
-    /// after which the set may be used on, and no more is said of it.
+    /// Adds a line, which the set may hold already; a line on the last run, or behind all others, takes no search. Its one
+    /// error is want of memory, after which the set may be used on, and no more is said of it.
+    #[inline]
     pub fn add(&mut self, line: u32) -> Result<(), NoMemory>
         ensures { OnOk result (self.new ≡ with_line line self.old) }
     {

@@ -48,6 +48,7 @@ fn ends_directly_before(spans: &[Span], at: usize, line: u32) -> bool
 }
 
 /// Takes a line into the last of the spans, where that span holds it or ends directly before it, and tells whether it did.
+#[inline]
 fn lengthen(spans: &mut [Span], line: u32) -> bool
     requires { AreMaximal spans.old }
     ensures reaches { IsTrue result ↔ ((0 < length spans.old)
@@ -82,6 +83,7 @@ fn is_behind(spans: &[Span], line: u32) -> bool
 }
 
 /// Adds a line to maximal spans. A line that the last of them reaches, or that is behind them all, takes no search.
+#[inline]
 pub(crate) fn add_line(spans: &mut SmallVec<Span, 2>, line: u32) -> Result<(), NoMemory>
     requires { AreMaximal spans.old.items }
     ensures maximal { AreMaximal spans.new.items }
@@ -100,7 +102,8 @@ pub(crate) fn add_line(spans: &mut SmallVec<Span, 2>, line: u32) -> Result<(), N
     insert_line(spans, line)
 }
 
-/// Adds a line to maximal spans, at the place that a search finds.
+/// Adds a line to maximal spans, at the place that a search finds. It stays out of the way of the calls that need none.
+#[inline(never)]
 fn insert_line(spans: &mut SmallVec<Span, 2>, line: u32) -> Result<(), NoMemory>
     requires { AreMaximal spans.old.items }
     ensures maximal { AreMaximal spans.new.items }
