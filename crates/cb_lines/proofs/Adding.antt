@@ -14,7 +14,7 @@ pub record Added (line : ℕ) (old new : List Span) : Type 0 where
   pub numbers : lines new ≡ with_line line (lines old)
 
 -- spans that end before the line stay
-kept : (line : ℕ) (xs ys zs : List Span) → Fits 0 (xs ++ ys) → bound 0 xs ≤ line + 1 → Fits (bound 0 xs) zs → lines zs ≡ with_line line (lines ys) → Added line (xs ++ ys) (xs ++ zs)
+pub kept : (line : ℕ) (xs ys zs : List Span) → Fits 0 (xs ++ ys) → bound 0 xs ≤ line + 1 → Fits (bound 0 xs) zs → lines zs ≡ with_line line (lines ys) → Added line (xs ++ ys) (xs ++ zs)
 kept line xs ys zs h le fits numbers =
     record {
       maximal = maximal_from_Fits 0 (xs ++ zs) (Fits-append 0 xs zs (Fits-left 0 xs ys h) fits);
@@ -29,7 +29,7 @@ kept line xs ys zs h le fits numbers =
 numbers-first : (a b : ℕ) (ys : List Span) → a ≤ b → lines (record { first = a; last = b } ∷ ys) ≡ a ∷ (range_with_len (a + 1) (b - a) ++ lines ys)
 numbers-first a b ys le = ap (λ (ls : List ℕ). ls ++ lines ys) (span_lines-first (record { first = a; last = b }) le)
 
-alone : (line low : ℕ) (ys : List Span) → Fits (line + 2) ys → lines (record { first = line; last = line } ∷ ys) ≡ with_line line (lines ys)
+pub alone : (line low : ℕ) (ys : List Span) → Fits (line + 2) ys → lines (record { first = line; last = line } ∷ ys) ≡ with_line line (lines ys)
 alone line low ys h =
     let e : line - line ≡ 0 = omega arith in
     numbers-first line line ys (omega arith) ∙ (ap (λ (n : ℕ). line ∷ (range_with_len (line + 1) n ++ lines ys)) e ∙ sym (with_line-before line (line + 2) ys h (omega arith)))

@@ -1,4 +1,5 @@
 pub mod Adding
+pub mod AtEnd
 pub mod Counting
 pub mod Holding
 pub mod Joining
@@ -7,3 +8,4 @@ pub mod Members
 pub mod Merged
 pub mod Positions
 pub mod SpanLists
+pub mod Written

@@ -7,11 +7,12 @@ ghost use Rattle.std.specs.List.Sorted.{IsStrictlyIncreasing};
 use crate::merging::merged;
 use crate::spans::{add_line, begins_by, count_before, count_lines};
 use cb_paths::NoMemory;
+use smallvec::SmallVec;
 use std::alloc::Global;
 use std::marker::Model;
 
 /// A run of consecutive line numbers.
-#[derive(Clone, Copy, Debug, PartialEq, Eq)]
+#[derive(Clone, Copy, Debug, Default, PartialEq, Eq)]
 pub struct Span {
     /// The least line of the run.
     pub first: u32,
@@ -19,10 +20,11 @@ pub struct Span {
     pub last: u32,
 }
 
-/// A set of line numbers, which contracts see as their rising list.
+/// A set of line numbers, which contracts see as their rising list. Up to two runs of them lie in the value itself and
+/// take no memory of their own.
 #[derive(Drop)]
 pub struct Lines {
-    spans: Vec<Span>,
+    spans: SmallVec<Span, 2>,
 }
 
 impl Model for Lines {
@@ -44,12 +46,13 @@ impl Lines {
         ensures { result ≡ [] }
     {
         Lines {
-            spans: Vec::new(alloc),
+            spans: SmallVec::new(alloc),
         }
     }
 
-    /// Adds a line, which the set may hold already; a line behind all others takes no search. Its one error is want of memory,
-    /// after which the set may be used on, and no more is said of it.
+    /// Adds a line, which the set may hold already; a line on the last run, or behind all others, takes no search. Its one
+    /// error is want of memory, after which the set may be used on, and no more is said of it.
+    #[inline]
     pub fn add(&mut self, line: u32) -> Result<(), NoMemory>
         ensures { OnOk result (self.new ≡ with_line line self.old) }
     {
@@ -75,7 +78,7 @@ impl Lines {
     pub fn copy(&self, alloc: Global) -> Result<Lines, NoMemory>
         ensures { IfOk result (λ copy. copy ≡ self.now) }
     {
-        let spans = Vec::from_slice(alloc, self.spans.as_slice())?;
+        let spans = SmallVec::from_slice(alloc, self.spans.as_slice())?;
         Ok(Lines { spans })
     }
 

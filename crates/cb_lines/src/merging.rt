@@ -7,6 +7,7 @@ ghost use Rattle.std.specs.List.{flat_map};
 
 use crate::line_set::Span;
 use cb_paths::NoMemory;
+use smallvec::SmallVec;
 use std::alloc::Global;
 
 /// What is left of two rising lists of spans.
@@ -50,7 +51,7 @@ fn meets(last: Span, next: Span) -> bool
 }
 
 /// Adds a span that begins no earlier than the last one does, and joins the two where they meet.
-fn join(spans: &mut Vec<Span>, next: Span) -> Result<(), NoMemory>
+fn join(spans: &mut SmallVec<Span, 2>, next: Span) -> Result<(), NoMemory>
     requires maximal { AreMaximal spans.old.items }
     requires rising { last_first spans.old.items ≤ next.first }
     requires full { next.first ≤ next.last }
@@ -68,13 +69,17 @@ fn join(spans: &mut Vec<Span>, next: Span) -> Result<(), NoMemory>
 }
 
 /// The maximal spans of the lines that two lists of them hold.
-pub(crate) fn merged(alloc: Global, left: &[Span], right: &[Span]) -> Result<Vec<Span>, NoMemory>
+pub(crate) fn merged(
+    alloc: Global,
+    left: &[Span],
+    right: &[Span],
+) -> Result<SmallVec<Span, 2>, NoMemory>
     requires left { AreMaximal left.now }
     requires right { AreMaximal right.now }
     ensures maximal { IfOk result (λ spans. AreMaximal spans.items) }
     ensures numbers { IfOk result (λ spans. flat_map span_lines spans.items ≡ union_of (flat_map span_lines left.now) (flat_map span_lines right.now)) }
 {
-    let mut spans = Vec::new(alloc);
+    let mut spans = SmallVec::new(alloc);
     let mut pair = Pair { left, right };
     'spans: while let Some(span) = pair.next() {
         join(&mut spans, span)?;

@@ -1,11 +1,12 @@
 //! Maximal runs of consecutive lines, rising.
-ghost use Rattle.std.specs.Prelude.{◌≡◌, ◌+◌, ◌-◌, ◌<◌, ◌≤◌, ◌↔◌, ℕ, length, slice_index_or, OnOk, IsTrue};
+ghost use Rattle.std.specs.Prelude.{◌≡◌, ◌+◌, ◌-◌, ◌<◌, ◌≤◌, ◌↔◌, ◌++◌, ◌∷◌, [], ℕ, false, length, slice_index_or, OnOk, IsTrue};
 ghost use Rattle.cb_lines.specs.declared.line_set.Span.{Span};
 ghost use Rattle.cb_lines.specs.Lines.{with_line, span_lines, AreMaximal};
 ghost use Rattle.std.specs.List.{flat_map};
 
 use crate::line_set::Span;
 use cb_paths::NoMemory;
+use smallvec::SmallVec;
 
 /// How many of rising spans end before a line.
 pub(crate) fn count_before(spans: &[Span], line: u32) -> usize
@@ -46,8 +47,64 @@ fn ends_directly_before(spans: &[Span], at: usize, line: u32) -> bool
     at > 0 && spans[at - 1].last < line && line - spans[at - 1].last == 1
 }
 
-/// Adds a line to maximal spans.
-pub(crate) fn add_line(spans: &mut Vec<Span>, line: u32) -> Result<(), NoMemory>
+/// Takes a line into the last of the spans, where that span holds it or ends directly before it, and tells whether it did.
+#[inline]
+fn lengthen(spans: &mut [Span], line: u32) -> bool
+    requires { AreMaximal spans.old }
+    ensures reaches { IsTrue result ↔ ((0 < length spans.old)
+        × ((slice_index_or spans.old (length spans.old - 1) (record { first = 0; last = 0 })).first ≤ line)
+        × line ≤ (slice_index_or spans.old (length spans.old - 1) (record { first = 0; last = 0 })).last + 1) }
+    ensures maximal { AreMaximal spans.new }
+    ensures numbers { IsTrue result → flat_map span_lines spans.new ≡ with_line line (flat_map span_lines spans.old) }
+    ensures kept { result ≡ false → spans.new ≡ spans.old }
+{
+    let count = spans.len();
+    if count == 0 {
+        return false;
+    }
+    let Span { first, last } = spans[count - 1];
+    if line <= last {
+        return first <= line;
+    }
+    if line - last > 1 {
+        return false;
+    }
+    spans[count - 1].last = line;
+    true
+}
+
+/// Whether a line is a span of its own behind maximal spans.
+fn is_behind(spans: &[Span], line: u32) -> bool
+    requires { AreMaximal spans.now }
+    ensures { IsTrue result ↔ AreMaximal (spans.now ++ record { first = line; last = line } ∷ []) }
+{
+    let count = spans.len();
+    count == 0 || (spans[count - 1].last < line && line - spans[count - 1].last > 1)
+}
+
+/// Adds a line to maximal spans. A line that the last of them reaches, or that is behind them all, takes no search.
+#[inline]
+pub(crate) fn add_line(spans: &mut SmallVec<Span, 2>, line: u32) -> Result<(), NoMemory>
+    requires { AreMaximal spans.old.items }
+    ensures maximal { AreMaximal spans.new.items }
+    ensures numbers { OnOk result (flat_map span_lines spans.new.items ≡ with_line line (flat_map span_lines spans.old.items)) }
+{
+    if lengthen(spans.as_mut_slice(), line) {
+        return Ok(());
+    }
+    if is_behind(spans.as_slice(), line) {
+        spans.push(Span {
+            first: line,
+            last: line,
+        })?;
+        return Ok(());
+    }
+    insert_line(spans, line)
+}
+
+/// Adds a line to maximal spans, at the place that a search finds. It stays out of the way of the calls that need none.
+#[inline(never)]
+fn insert_line(spans: &mut SmallVec<Span, 2>, line: u32) -> Result<(), NoMemory>
     requires { AreMaximal spans.old.items }
     ensures maximal { AreMaximal spans.new.items }
     ensures numbers { OnOk result (flat_map span_lines spans.new.items ≡ with_line line (flat_map span_lines spans.old.items)) }

@@ -4,28 +4,18 @@ ghost use Rattle.cb_outside.specs.declared.read_error.ReadError.TheVariants.{Fai
 
 use crate::failed;
 use std::alloc::AllocError;
-use std::error::Error;
-use std::fmt;
+use thiserror::Error;
 
 /// Why a source was not read to its end.
-#[derive(Clone, Copy, Debug, PartialEq, Eq)]
+#[derive(Clone, Copy, Debug, PartialEq, Eq, Error)]
 pub enum ReadError {
     /// A read failed.
+    #[error("a read failed")]
     Failed,
     /// There was not enough memory.
+    #[error("out of memory")]
     NoMemory,
 }
-
-impl fmt::Display for ReadError {
-    fn fmt<W: fmt::Write>(&self, f: &mut fmt::Formatter<W>) -> fmt::Result {
-        match self {
-            ReadError::Failed => write!(f, "a read failed"),
-            ReadError::NoMemory => write!(f, "out of memory"),
-        }
-    }
-}
-
-impl Error for ReadError {}
 
 impl From<failed::Failed> for ReadError {
     ghost from_gives = { λ _ e. e ≡ Failed };

@@ -68,6 +68,27 @@ fn a_source_is_read_up_to_a_limit(rt: HostRuntime) -> Result<(), Fail> {
 }
 
 #[test]
+fn errors_are_written(rt: HostRuntime) -> Result<(), Fail> {
+    for (text, want) in [
+        (
+            format!(in rt.alloc(); "{}", Failed)?,
+            "a read or a write failed",
+        ),
+        (
+            format!(in rt.alloc(); "{}", ReadError::Failed)?,
+            "a read failed",
+        ),
+        (
+            format!(in rt.alloc(); "{}", ReadError::NoMemory)?,
+            "out of memory",
+        ),
+    ] {
+        assert_eq!(rt; text.as_str(), want);
+    }
+    Ok(())
+}
+
+#[test]
 fn the_standard_streams_answer(rt: HostRuntime) -> Result<(), Fail> {
     assert_eq!(rt; StdSource::new(&rt).read(&mut [0; 4]), Ok(0));
     assert_eq!(rt; put_all(&mut StdSink::new(&rt), b"ok\n"), Ok(()));

@@ -92,6 +92,8 @@ mod tests {
         assert_eq!(rt; copy.as_slice(), b"a text of seventeen!".as_slice());
         assert_eq!(rt; copy.len(), 20);
         assert!(rt; Bytes::new(rt.alloc()).is_empty());
+        let text = format!(in rt.alloc(); "{}", NoMemory)?;
+        assert_eq!(rt; text.as_str(), "out of memory");
         Ok(())
     }
 }

@@ -6,8 +6,8 @@ use Rattle.cb_lines.proofs.line_set.Lines.union.Goals as goal
 
 pub returns-clause-members : goal.returns-clause-members
 returns-clause-members c = λ line.
-    let left = ap lines c.as_slice.ensures.value ∙ c.self.view_is in
-    let right = ap lines c.as_slice-2.ensures.value ∙ c.other.view_is in
+    let left = ap lines c.as_slice.ensures ∙ c.self.view_is in
+    let right = ap lines c.as_slice-2.ensures ∙ c.other.view_is in
     ap (λ (ls : List ℕ). has_line ls line) c.in_ok-spans.ensures.numbers
     ∙ (has-union_of (lines c.as_slice.result.now) (lines c.as_slice-2.result.now) line
     ∙ (ap (λ (ls : List ℕ). has_line ls line || has_line (lines c.as_slice-2.result.now) line) left
