@@ -8,6 +8,7 @@ pub mod Closing
 pub mod Image
 pub mod Room
 pub mod Along
+pub mod Position
 pub mod Depth
 pub mod Wide
 pub mod Unique

@@ -1,5 +1,5 @@
 -- What is wrong with a condition, and which fault decides (6.10.1; the limits and the order are own).
-use Rattle.std.specs.Prelude.{◌≡◌, ◌==◌, ℕ, ◌+◌, ◌*◌, ◌<◌, ◌≤◌, ◌⊎◌, Bool, true, false, not, List, take, Result, Ok, Err, Option, Some, None, codes}
+use Rattle.std.specs.Prelude.{◌≡◌, ◌==◌, ℕ, ◌+◌, ◌*◌, ◌<◌, ◌≤◌, ◌⊎◌, Bool, true, false, not, List, take, Result, Ok, Err, Option, Some, None, if◌then◌else◌, codes}
 use Rattle.std.specs.List.{count_by, Contains}
 use Rattle.cb_cond.specs.declared.symbol.Symbol.{Symbol}
 use Rattle.cb_cond.specs.declared.symbol.Symbol.TheVariants.{OpenParenthesis, CloseParenthesis, Question, WideInteger}
@@ -7,6 +7,9 @@ use Rattle.cb_cond.specs.declared.meaning.Value.TheVariants as values
 use Rattle.cb_cond.specs.declared.meaning.Meaning.{Meaning}
 use Rattle.cb_cond.specs.declared.bad_condition.BadCondition.{BadCondition}
 use Rattle.cb_cond.specs.declared.bad_condition.BadCondition.TheVariants as bad
+use Rattle.cb_cond.specs.declared.nesting.Slack.{Slack}
+use Rattle.cb_cond.specs.declared.evaluation.Attempt.{Attempt}
+use Rattle.cb_cond.specs.declared.evaluation.Attempt.TheVariants.{Read, Crowded}
 use Rattle.cb_cond.specs.Grammar.{Tree, IsCondition}
 use Rattle.cb_cond.specs.Values.{meaning}
 
@@ -56,6 +59,20 @@ HasRoom ss n =
 abbrev pub IsReadAs : List Symbol → Option Meaning → Type 0
 IsReadAs ss None = (tree : Tree) → ¬ (IsCondition ss tree)
 IsReadAs ss (Some m) = (tree : Tree) × IsCondition ss tree × (m ≡ meaning tree)
+
+-- what came of reading symbols in a room of n frames (own; no public clause rests on it)
+abbrev pub IsAttempt : List Symbol → ℕ → Attempt → Type 0
+IsAttempt ss n (Read o) = IsReadAs ss o
+IsAttempt ss n Crowded = ¬ (HasRoom ss n)
+
+-- the symbol opens more than what may still be opened (own; no public clause rests on it)
+abbrev pub IsSpent : Slack → Symbol → Type 0
+IsSpent slack s = ((is_open s ≡ true) × (slack.parentheses ≡ 0)) ⊎ ((is_question s ≡ true) × (slack.questions ≡ 0))
+
+-- what may still be opened behind a symbol (own; no public clause rests on it)
+pub record IsSlackBehind (slack : Slack) (s : Symbol) (behind : Slack) : Type 0 where
+  pub parentheses : behind.parentheses + (if is_open s then 1 else 0) ≡ slack.parentheses + (if is_close s then 1 else 0)
+  pub questions : behind.questions + (if is_question s then 1 else 0) ≡ slack.questions
 
 -- the name of a fault (own)
 abbrev pub fault_name : BadCondition → List ℕ

@@ -7,3 +7,4 @@ pub mod Symbols
 pub mod Prefixes
 pub mod Frames
 pub mod Faults
+pub mod Parts

@@ -1,19 +1,26 @@
 //! What is wrong with a condition.
 ghost use Rattle.std.specs.Prelude.{◌≡◌};
 
+use thiserror::Error;
+
 /// Why a condition has no value. Where several reasons hold, a later one of this list stands before an earlier one, but
 /// for `ZeroDivisor` and `Shift`, of which evaluation from the left meets one first.
-#[derive(Clone, Copy, Debug, PartialEq, Eq)]
+#[derive(Clone, Copy, Debug, PartialEq, Eq, Error)]
 pub enum BadCondition {
     /// The tokens are no conditional expression.
+    #[error("the tokens are no conditional expression")]
     Malformed = 1,
     /// A divisor is 0.
+    #[error("a divisor is 0")]
     ZeroDivisor = 2,
     /// A value is shifted by a negative number, or by 64 or more.
+    #[error("a value is shifted by a negative number, or by 64 or more")]
     Shift = 3,
     /// An integer is 2^64 or more.
+    #[error("an integer is 2^64 or more")]
     TooWide = 4,
     /// More than 256 parentheses are open at once, or there are more than 256 question marks.
+    #[error("more than 256 parentheses are open at once, or there are more than 256 question marks")]
     TooDeep = 5,
 }
 

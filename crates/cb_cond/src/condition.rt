@@ -3,36 +3,52 @@ ghost use Rattle.std.specs.Prelude.{◌≡◌, Bool, true, false, Result};
 ghost use Rattle.cb_cond.specs.declared.bad_condition.BadCondition.{BadCondition};
 ghost use Rattle.cb_cond.specs.Integers.{ReadsEachInteger, ReadsOnlyIntegers};
 ghost use Rattle.cb_cond.specs.Grammar.{Tree, IsCondition};
+ghost use Rattle.cb_cond.specs.Parts.{tokens_of, left};
 ghost use Rattle.cb_cond.specs.Symbols.{symbols};
 ghost use Rattle.cb_cond.specs.Faults.{IsAnswer, IsTooWide};
 
 use crate::bad_condition::BadCondition;
 use crate::evaluation::meaning_of;
 use crate::meaning::Value;
-use crate::nesting::nesting_of;
+use crate::nesting::is_too_deep;
+use crate::rest::Rest;
 use crate::symbol::Symbol;
 use crate::symbols::token_symbol;
 use cb_paths::Language;
 use cb_tokens::Token;
 
-/// The parentheses that may be open at once.
-const PARENTHESIS_LIMIT: usize = 256;
-
-/// The question marks that a condition may have.
-const QUESTION_LIMIT: usize = 256;
-
 /// Whether some integer is 2^64 or more.
-fn has_wide(language: Language, tokens: &[Token]) -> bool
-    ensures wide { result ≡ true → IsTooWide (symbols language tokens.now) }
-    ensures narrow { result ≡ false → ¬ (IsTooWide (symbols language tokens.now)) }
+fn has_wide(language: Language, mut rest: Rest) -> bool
+    ensures wide { result ≡ true → IsTooWide (symbols language (left rest.entry)) }
+    ensures narrow { result ≡ false → ¬ (IsTooWide (symbols language (left rest.entry))) }
 {
-    'tokens: for token in tokens {
+    'tokens: while let Some(token) = rest.next() {
         let symbol = token_symbol(language, token);
         if let Symbol::WideInteger = symbol {
             return true;
         }
     }
     false
+}
+
+/// Whether a condition holds of which nothing has been read.
+fn answer(rest: Rest, language: Language) -> Result<bool, BadCondition>
+    ensures { IsAnswer (symbols language (left rest.entry)) result }
+{
+    if is_too_deep(rest) {
+        return Err(BadCondition::TooDeep);
+    }
+    let Some(meaning) = meaning_of(language, rest) else {
+        if has_wide(language, rest) {
+            return Err(BadCondition::TooWide);
+        }
+        return Err(BadCondition::Malformed);
+    };
+    match meaning.value {
+        Value::Bits(bits) => Ok(bits != 0),
+        Value::ZeroDivisor => Err(BadCondition::ZeroDivisor),
+        Value::Shift => Err(BadCondition::Shift),
+    }
 }
 
 /// Whether the condition of an `#if` or `#elif` holds: these are its tokens after replacement.
@@ -48,22 +64,24 @@ pub fn value(tokens: &[Token], language: Language) -> Result<bool, BadCondition>
     ensures each_integer { ReadsEachInteger }
     ensures only_integers { ReadsOnlyIntegers }
 {
-    let nesting = nesting_of(tokens);
-    if nesting.parentheses > PARENTHESIS_LIMIT {
-        return Err(BadCondition::TooDeep);
-    }
-    if nesting.questions > QUESTION_LIMIT {
-        return Err(BadCondition::TooDeep);
-    }
-    let Some(meaning) = meaning_of(language, tokens, nesting) else {
-        if has_wide(language, tokens) {
-            return Err(BadCondition::TooWide);
-        }
-        return Err(BadCondition::Malformed);
-    };
-    match meaning.value {
-        Value::Bits(bits) => Ok(bits != 0),
-        Value::ZeroDivisor => Err(BadCondition::ZeroDivisor),
-        Value::Shift => Err(BadCondition::Shift),
-    }
+    answer(Rest::of_list(tokens), language)
+}
+
+/// Whether the condition of an `#if` or `#elif` holds, of which the tokens after replacement lie in parts, one after
+/// another.
+///
+/// The answer is that of `value` for one list of the same tokens. A part may be empty, and a part may end anywhere, as
+/// within parentheses. No memory is taken.
+#[tactic(auto, using(crate::proofs::Unique::exact))]
+pub fn value_of_parts<'a>(
+    parts: &'a [&'a [Token]],
+    language: Language,
+) -> Result<bool, BadCondition>
+    ensures answer { IsAnswer (symbols language (tokens_of parts.now)) result }
+    ensures one_answer { (a b : Result Bool BadCondition) → IsAnswer (symbols language (tokens_of parts.now)) a → IsAnswer (symbols language (tokens_of parts.now)) b → a ≡ b }
+    ensures one_tree { (a b : Tree) → IsCondition (symbols language (tokens_of parts.now)) a → IsCondition (symbols language (tokens_of parts.now)) b → a ≡ b }
+    ensures each_integer { ReadsEachInteger }
+    ensures only_integers { ReadsOnlyIntegers }
+{
+    answer(Rest::of_parts(parts), language)
 }

@@ -1,100 +1,95 @@
 //! The meaning of a whole condition.
-ghost use Rattle.std.specs.Prelude.{◌≡◌, ℕ, ◌<◌, ◌≤◌, ◌+◌, ◌*◌, length, take};
-ghost use Rattle.std.specs.List.{count_by};
+ghost use Rattle.std.specs.Prelude.{length};
+ghost use Rattle.cb_cond.specs.Parts.{left};
 ghost use Rattle.cb_cond.specs.Symbols.{symbols};
-ghost use Rattle.cb_cond.specs.Faults.{HasRoom, IsReadAs, is_open, is_close, is_question};
+ghost use Rattle.cb_cond.specs.Faults.{HasRoom, IsTooDeep, IsReadAs, IsAttempt};
 
 use crate::frames::{Frame, Held, Position, read_symbol, whole};
 use crate::meaning::Meaning;
-use crate::nesting::Nesting;
 use crate::prefixes::Prefixes;
+use crate::rest::Rest;
 use crate::symbols::token_symbol;
 use cb_paths::Language;
-use cb_tokens::Token;
 
-/// The meaning of a condition, or nothing where the tokens are none, read in a room that is large enough.
-fn meaning_in(language: Language, tokens: &[Token], frames: &mut [Frame]) -> Option<Meaning>
-    requires { HasRoom (symbols language tokens.now) (length frames.old) }
-    ensures { IsReadAs (symbols language tokens.now) result }
+/// What came of reading a condition in a room of fixed size.
+#[derive(Clone, Copy)]
+pub(crate) enum Attempt {
+    /// The meaning of the condition, or nothing where the tokens are none.
+    Read(Option<Meaning>),
+    /// The room may be too small.
+    Crowded,
+}
+
+/// Reads a condition in a room.
+fn meaning_in(language: Language, mut rest: Rest, frames: &mut [Frame]) -> Attempt
+    ensures { IsAttempt (symbols language (left rest.entry)) (length frames.old) result }
 {
     let mut position = Position {
         top: frames.len(),
         held: Held::Awaits(Prefixes::NONE),
     };
-    'tokens: for token in tokens {
-        let symbol = token_symbol(language, token);
-        let Some(next) = read_symbol(frames, position, symbol) else {
-            return None;
+    'tokens: while let Some(token) = rest.next() {
+        if position.top == 0 {
+            return Attempt::Crowded;
+        }
+        let Some(next) = read_symbol(frames, position, token_symbol(language, token)) else {
+            return Attempt::Read(None);
         };
         position = next;
     }
-    whole(frames, position)
+    Attempt::Read(whole(frames, position))
 }
 
 /// The frames that are enough for most conditions.
-const FEW_FRAMES: usize = 64;
+const FEW_FRAMES: usize = 16;
 
 /// The frames that are enough for conditions that are nested more deeply, and still cost little to make.
 const MANY_FRAMES: usize = 256;
 
-/// The frames that are enough for each condition that is not too deep.
+/// The frames that are enough for each condition that is not too deep: in each open parenthesis and outside an operator of
+/// each of the ten levels may wait, and then there are the parentheses and the choices themselves. One stays free.
 const ALL_FRAMES: usize = 3083;
 
-/// The meaning of a condition that is nested a little.
+/// Reads a condition in a small room.
 #[inline(never)]
-fn meaning_in_few(language: Language, tokens: &[Token]) -> Option<Meaning>
-    requires { HasRoom (symbols language tokens.now) FEW_FRAMES }
-    ensures { IsReadAs (symbols language tokens.now) result }
+fn meaning_in_few(language: Language, rest: Rest) -> Attempt
+    ensures { IsAttempt (symbols language (left rest.entry)) FEW_FRAMES result }
 {
     let mut frames = [Frame::Inside(Prefixes::NONE); FEW_FRAMES];
-    meaning_in(language, tokens, &mut frames)
+    meaning_in(language, rest, &mut frames)
 }
 
-/// The meaning of a condition that is nested more deeply.
+/// Reads a condition in a larger room.
 #[inline(never)]
-fn meaning_in_many(language: Language, tokens: &[Token]) -> Option<Meaning>
-    requires { HasRoom (symbols language tokens.now) MANY_FRAMES }
-    ensures { IsReadAs (symbols language tokens.now) result }
+fn meaning_in_many(language: Language, rest: Rest) -> Attempt
+    ensures { IsAttempt (symbols language (left rest.entry)) MANY_FRAMES result }
 {
     let mut frames = [Frame::Inside(Prefixes::NONE); MANY_FRAMES];
-    meaning_in(language, tokens, &mut frames)
+    meaning_in(language, rest, &mut frames)
 }
 
-/// The meaning of any condition that is not too deep.
+/// Reads a condition in the largest room.
 #[inline(never)]
-fn meaning_in_all(language: Language, tokens: &[Token]) -> Option<Meaning>
-    requires { HasRoom (symbols language tokens.now) ALL_FRAMES }
-    ensures { IsReadAs (symbols language tokens.now) result }
+fn meaning_in_all(language: Language, rest: Rest) -> Attempt
+    ensures { IsAttempt (symbols language (left rest.entry)) ALL_FRAMES result }
 {
     let mut frames = [Frame::Inside(Prefixes::NONE); ALL_FRAMES];
-    meaning_in(language, tokens, &mut frames)
+    meaning_in(language, rest, &mut frames)
 }
 
-/// The frames that are enough for a condition: in each open parenthesis and outside an operator of each of the ten
-/// levels may wait, and then there are the parentheses and the choices themselves. One stays free.
-fn frames_for(nesting: Nesting) -> usize
-    requires parentheses { nesting.parentheses ≤ 256 }
-    requires questions { nesting.questions ≤ 256 }
-    ensures value { result ≡ 11 * nesting.parentheses + nesting.questions + 11 }
+/// The meaning of a condition that is not too deep, or nothing where the tokens are none.
+pub(crate) fn meaning_of(language: Language, rest: Rest) -> Option<Meaning>
+    requires { ¬ (IsTooDeep (symbols language (left rest))) }
+    ensures { IsReadAs (symbols language (left rest.entry)) result }
 {
-    11 * nesting.parentheses + nesting.questions + 11
-}
-
-/// The meaning of a condition of which it is known how deeply it is nested.
-pub(crate) fn meaning_of(language: Language, tokens: &[Token], nesting: Nesting) -> Option<Meaning>
-    requires parentheses { nesting.parentheses ≤ 256 }
-    requires questions { nesting.questions ≤ 256 }
-    requires bounded { (k : ℕ) → count_by is_open (take k (symbols language tokens.now))
-        ≤ count_by is_close (take k (symbols language tokens.now)) + nesting.parentheses }
-    requires counted { nesting.questions ≡ count_by is_question (symbols language tokens.now) }
-    ensures { IsReadAs (symbols language tokens.now) result }
-{
-    let frames = frames_for(nesting);
-    if frames <= FEW_FRAMES {
-        meaning_in_few(language, tokens)
-    } else if frames <= MANY_FRAMES {
-        meaning_in_many(language, tokens)
-    } else {
-        meaning_in_all(language, tokens)
+    if let Attempt::Read(meaning) = meaning_in_few(language, rest) {
+        return meaning;
+    }
+    if let Attempt::Read(meaning) = meaning_in_many(language, rest) {
+        return meaning;
+    }
+    match meaning_in_all(language, rest) {
+        Attempt::Read(meaning) => meaning,
+        Attempt::Crowded => None,
     }
 }

@@ -12,6 +12,7 @@ mod meaning;
 mod nesting;
 mod operations;
 mod prefixes;
+mod rest;
 mod symbol;
 mod symbols;
 #[cfg(test)]
@@ -19,5 +20,5 @@ mod tests;
 mod words;
 
 pub use bad_condition::BadCondition;
-pub use condition::value;
+pub use condition::{value, value_of_parts};
 pub use laws::one_condition;

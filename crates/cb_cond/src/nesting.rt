@@ -1,69 +1,69 @@
 //! How deeply a condition is nested.
-ghost use Rattle.std.specs.Prelude.{◌≡◌, ℕ, ◌+◌, ◌<◌, ◌≤◌, length, take};
-ghost use Rattle.std.specs.List.{count_by};
+ghost use Rattle.std.specs.Prelude.{◌≡◌, ◌+◌, ◌<◌, ◌^◌, true, false, MatchOption};
 ghost use Rattle.cb_paths.specs.declared.language.Language.{Language};
+ghost use Rattle.cb_cond.specs.Parts.{left};
 ghost use Rattle.cb_cond.specs.Symbols.{symbols};
-ghost use Rattle.cb_cond.specs.Faults.{is_open, is_close, is_question};
+ghost use Rattle.cb_cond.specs.Faults.{IsTooDeep, IsSpent, IsSlackBehind};
 
+use crate::rest::Rest;
 use crate::symbol::Symbol;
 use crate::symbols::outline_symbol;
-use cb_tokens::Token;
 
-/// How deeply a condition is nested.
-#[derive(Clone, Copy, Debug, PartialEq, Eq)]
-pub(crate) struct Nesting {
-    /// The greatest number of parentheses that are open at once.
-    pub(crate) parentheses: usize,
-    /// The number of question marks.
-    pub(crate) questions: usize,
+/// The parentheses that may be open at once.
+const PARENTHESIS_LIMIT: u128 = 256;
+
+/// The question marks that a condition may have.
+const QUESTION_LIMIT: u32 = 256;
+
+/// What a condition may still open.
+#[derive(Clone, Copy)]
+pub(crate) struct Slack {
+    /// The parentheses that may be opened. Each one that is closed makes room for another.
+    parentheses: u128,
+    /// The question marks that may come.
+    questions: u32,
 }
 
-/// Whether it is an open parenthesis.
-#[tactic(auto, unfolding(crate::specs::Faults::is_open))]
-fn opens(symbol: Symbol) -> bool
-    ensures { result ≡ is_open symbol }
+/// What may be opened behind a symbol, or nothing where the symbol opens too much.
+#[tactic(auto, unfolding(crate::specs::Faults::is_open, crate::specs::Faults::is_close, crate::specs::Faults::is_question))]
+fn slack_behind(slack: Slack, symbol: Symbol) -> Option<Slack>
+    requires { slack.parentheses + 1 < 2 ^ 128 }
+    ensures { MatchOption result (IsSpent slack symbol) (IsSlackBehind slack symbol) }
 {
-    symbol == Symbol::OpenParenthesis
-}
-
-/// Whether it is a closing parenthesis.
-#[tactic(auto, unfolding(crate::specs::Faults::is_close))]
-fn closes(symbol: Symbol) -> bool
-    ensures { result ≡ is_close symbol }
-{
-    symbol == Symbol::CloseParenthesis
-}
-
-/// Whether it is a question mark.
-#[tactic(auto, unfolding(crate::specs::Faults::is_question))]
-fn asks(symbol: Symbol) -> bool
-    ensures { result ≡ is_question symbol }
-{
-    symbol == Symbol::Question
-}
-
-/// How deeply the tokens of a condition are nested.
-#[tactic(auto)]
-pub(crate) fn nesting_of(tokens: &[Token]) -> Nesting
-    ensures bounded { (language : Language) (k : ℕ) → count_by is_open (take k (symbols language tokens.now))
-        ≤ count_by is_close (take k (symbols language tokens.now)) + result.parentheses }
-    ensures reached { (language : Language) → 0 < result.parentheses → (k : ℕ) × (count_by is_open (take k (symbols language tokens.now))
-        ≡ count_by is_close (take k (symbols language tokens.now)) + result.parentheses) }
-    ensures questions { (language : Language) → result.questions ≡ count_by is_question (symbols language tokens.now) }
-{
-    let mut opened: usize = 0;
-    let mut closed: usize = 0;
-    let mut parentheses: usize = 0;
-    let mut questions: usize = 0;
-    'tokens: for token in tokens {
-        let symbol = outline_symbol(token);
-        opened += usize::from(opens(symbol));
-        closed += usize::from(closes(symbol));
-        questions += usize::from(asks(symbol));
-        parentheses = parentheses.max(opened.saturating_sub(closed));
+    match symbol {
+        Symbol::OpenParenthesis => Some(Slack {
+            parentheses: slack.parentheses.checked_sub(1)?,
+            questions: slack.questions,
+        }),
+        Symbol::CloseParenthesis => Some(Slack {
+            parentheses: slack.parentheses + 1,
+            questions: slack.questions,
+        }),
+        Symbol::Question => Some(Slack {
+            parentheses: slack.parentheses,
+            questions: slack.questions.checked_sub(1)?,
+        }),
+        _ => Some(slack),
     }
-    Nesting {
-        parentheses,
-        questions,
+}
+
+/// Whether too many parentheses are open at once, or there are too many question marks.
+pub(crate) fn is_too_deep(mut rest: Rest) -> bool
+    ensures deep { (language : Language) → result ≡ true → IsTooDeep (symbols language (left rest.entry)) }
+    ensures flat { (language : Language) → result ≡ false → ¬ (IsTooDeep (symbols language (left rest.entry))) }
+{
+    if rest.is_short() {
+        return false;
     }
+    let mut slack = Slack {
+        parentheses: PARENTHESIS_LIMIT,
+        questions: QUESTION_LIMIT,
+    };
+    'tokens: while let Some(token) = rest.next() {
+        let Some(behind) = slack_behind(slack, outline_symbol(token)) else {
+            return true;
+        };
+        slack = behind;
+    }
+    false
 }

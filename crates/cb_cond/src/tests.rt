@@ -1,5 +1,5 @@
 //! Conditions with the answers that the C standard's rules give.
-use crate::{BadCondition, value};
+use crate::{BadCondition, value, value_of_parts};
 use cb_paths::{Bytes, Language, NoMemory};
 use cb_tokens::{Token, TokenKind};
 use std::alloc::Global;
@@ -315,6 +315,26 @@ const TOO_WIDE: [&str; 11] = [
     "18446744073709551616 >> 64",
 ];
 
+/// Conditions of C in parts, of which each but the last ends at a `;`, and their answers.
+const IN_PARTS: [(&str, Result<bool, BadCondition>); 16] = [
+    ("", Err(BadCondition::Malformed)),
+    (";;", Err(BadCondition::Malformed)),
+    ("1", Ok(true)),
+    (";1", Ok(true)),
+    ("0;;", Ok(false)),
+    ("1;+;1;==;2", Ok(true)),
+    ("( 1;+ 1 );== 2", Ok(true)),
+    ("! (;;0 ) && (;1", Err(BadCondition::Malformed)),
+    ("0 ? 1;: 0 ? 2;: 3", Ok(true)),
+    ("- ~;! 0", Ok(true)),
+    ("1;1", Err(BadCondition::Malformed)),
+    ("1 /;0", Err(BadCondition::ZeroDivisor)),
+    ("1 <<;64", Err(BadCondition::Shift)),
+    ("0 && 1 /;0", Ok(false)),
+    ("1 );18446744073709551616", Err(BadCondition::TooWide)),
+    ("18446744073709551616;)", Err(BadCondition::TooWide)),
+];
+
 /// The form of a token, by its first byte.
 fn kind_of(text: &[u8]) -> TokenKind {
     if text.len() == 0 {
@@ -355,6 +375,41 @@ fn answer(
     let mut tokens = Vec::new(alloc);
     add(alloc, &mut tokens, text)?;
     Ok(value(tokens.as_slice(), language))
+}
+
+/// The answer to a condition of C in parts, of which each but the last ends at a `;`.
+fn answer_in_parts(alloc: Global, text: &str) -> Result<Result<bool, BadCondition>, NoMemory> {
+    let mut lists = Vec::new(alloc);
+    for part in text.split(';') {
+        let mut tokens = Vec::new(alloc);
+        if !part.is_empty() {
+            add(alloc, &mut tokens, part)?;
+        }
+        lists.push(tokens)?;
+    }
+    let mut parts = Vec::new(alloc);
+    for tokens in &lists {
+        parts.push(tokens.as_slice())?;
+    }
+    Ok(value_of_parts(parts.as_slice(), Language::C))
+}
+
+/// The answer to a condition of C in parts, in which a part stands so many times, and then another one.
+fn answer_to_repeated(
+    alloc: Global,
+    front: (&str, usize),
+    end: &str,
+) -> Result<Result<bool, BadCondition>, NoMemory> {
+    let mut first = Vec::new(alloc);
+    add(alloc, &mut first, front.0)?;
+    let mut last = Vec::new(alloc);
+    add(alloc, &mut last, end)?;
+    let mut parts = Vec::new(alloc);
+    for _ in 0..front.1 {
+        parts.push(first.as_slice())?;
+    }
+    parts.push(last.as_slice())?;
+    Ok(value_of_parts(parts.as_slice(), Language::C))
 }
 
 /// The answer to a condition of C in which a front, a middle and an end stand so many times.
@@ -413,6 +468,26 @@ fn faults_are_told(rt: HostRuntime) -> Result<(), Fail> {
     each_answers(&rt, &TOO_WIDE, Language::C, Err(BadCondition::TooWide))?;
     assert!(rt; value(&[], Language::C) == Err(BadCondition::Malformed));
     assert!(rt; BadCondition::TooDeep.name() == "TooDeep");
+    let text = format!(in rt.alloc(); "{}", BadCondition::ZeroDivisor)?;
+    assert_eq!(rt; text.as_str(), "a divisor is 0");
+    Ok(())
+}
+
+#[test]
+fn parts_are_read_one_after_another(rt: HostRuntime) -> Result<(), Fail> {
+    assert!(rt; value_of_parts(&[], Language::C) == Err(BadCondition::Malformed));
+    for (text, expected) in IN_PARTS {
+        let found = answer_in_parts(rt.alloc(), text)?;
+        assert!(rt; found == expected, "{text}");
+    }
+    let deep = answer_to_repeated(rt.alloc(), ("(", 257), "1")?;
+    assert_eq!(rt; deep, Err(BadCondition::TooDeep));
+    let open = answer_to_repeated(rt.alloc(), ("(", 256), "1")?;
+    assert_eq!(rt; open, Err(BadCondition::Malformed));
+    let questions = answer_to_repeated(rt.alloc(), ("0 ? 0 :", 256), "1")?;
+    assert_eq!(rt; questions, Ok(true));
+    let more_questions = answer_to_repeated(rt.alloc(), ("0 ? 0 :", 257), "1")?;
+    assert_eq!(rt; more_questions, Err(BadCondition::TooDeep));
     Ok(())
 }
 

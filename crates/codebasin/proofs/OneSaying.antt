@@ -1,9 +1,8 @@
 -- A source is answered in one way, since it is read in one way and each condition has one answer.
-use Rattle.std.proofs.Common.{◌≡◌, ℕ, ◌<◌, ◌≤◌, Bool, true, false, not, ◌&&◌, ◌||◌, List, [], ◌∷◌, ◌++◌, length, Result, Option, Some, None, refl, ap, sym, subst, ◌∙◌, arith}
+use Rattle.std.proofs.Common.{◌≡◌, ℕ, Bool, true, false, not, ◌&&◌, ◌||◌, List, [], ◌∷◌, ◌++◌, Result, refl, ap, sym, subst, ◌∙◌, arith}
 use Rattle.cb_tokens.specs.declared.token.Token.{Token}
 use Rattle.cb_tree.specs.declared.node.NodeKind.{NodeKind}
 use Rattle.cb_tree.specs.declared.node.NodeKind.TheVariants.{Text, If, Ifdef, Ifndef, Elif, Else, Endif, Define, Undef, Include, Once, Error, Other}
-use Rattle.cb_tree.specs.declared.fault.SourceKind.TheVariants as kind
 use Rattle.cb_tree.specs.declared.fault.BadSource.{BadSource}
 use Rattle.cb_tree.specs.Nodes.{Node, node_rest}
 use Rattle.cb_tree.specs.Sound.{Reading, Sound, Unsound, IsRead, too_many_bytes}
@@ -16,7 +15,7 @@ use Rattle.codebasin.specs.declared.section.Section.{Section}
 use Rattle.codebasin.specs.Defined.{answered}
 use Rattle.codebasin.specs.NameSet.{NameSet}
 use Rattle.codebasin.specs.Sections.{is_live, may_be_taken, entered, continued}
-use Rattle.codebasin.specs.Pass.{State, Holds, IsTruth, Reaches, truth, is_asked, reached_here, sections_behind, state_behind, lines_of_nodes, names_behind}
+use Rattle.codebasin.specs.Pass.{State, Holds, IsTruth, Reaches, truth, is_asked, reached_here, sections_behind, state_behind, lines_of_nodes}
 use Rattle.codebasin.specs.Texts.{numbers_text, fault_text, not_yet_text}
 use Rattle.codebasin.specs.Answers.{Answers, SaysOfNodes, not_yet, done, too_long, unsound, sound}
 

@@ -1,5 +1,5 @@
 -- The operator `defined` in conditions (6.10.1 paragraph 1).
-use Rattle.std.specs.Prelude.{ℕ, Bool, true, false, ◌&&◌, if◌then◌else◌, List, [], ◌∷◌, codes, Option, Some, None}
+use Rattle.std.specs.Prelude.{◌≡◌, ℕ, Bool, true, false, ◌&&◌, if◌then◌else◌, List, [], ◌∷◌, codes, Option, Some, None}
 use Prim.Native.Nat.{zero, suc}
 use Rattle.std.specs.List.{list_any}
 use Rattle.std.specs.Str.{bytes_eq}
@@ -8,6 +8,7 @@ use Rattle.cb_tokens.specs.declared.token.TokenKind.TheVariants.{Number}
 use Rattle.cb_tokens.specs.declared.token.Token.{Token}
 use Rattle.cb_tree.specs.Kinds.{is_identifier_kind}
 use Rattle.codebasin.specs.declared.defined.Asked.{Asked}
+use Rattle.codebasin.specs.declared.defined.Digits.{Digits}
 use Rattle.codebasin.specs.NameSet.{NameSet}
 
 -- a name that `defined` asks for, and the number of the tokens behind `defined` that say so
@@ -43,10 +44,19 @@ abbrev pub answer_text : Bool → List ℕ
 answer_text true = codes "1"
 answer_text false = codes "0"
 
+-- the number 1 or 0 as a token (white space before it means nothing in a condition)
+abbrev pub answer_token : Bool → Token
+answer_token defined = record { kind = Number; text = answer_text defined; spaced = false }
+
 -- the number that answers a question, in the place of its first token; a token without a question stays
 abbrev pub answer_to : NameSet → Token → Option Question → Token
 answer_to names t None = t
-answer_to names t (Some q) = record { kind = Number; text = answer_text (set.contains names q.name); spaced = t.spaced }
+answer_to names t (Some q) = answer_token (set.contains names q.name)
+
+-- the tokens that the answers are
+pub record AreDigits (digits : Digits) : Type 0 where
+  pub one : digits.one ≡ answer_token true ∷ []
+  pub zero : digits.zero ≡ answer_token false ∷ []
 
 -- the number of the tokens that say a question, behind its first
 abbrev pub question_len : Option Question → ℕ

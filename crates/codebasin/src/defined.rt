@@ -1,8 +1,10 @@
 //! The operator `defined` in conditions.
-ghost use Rattle.std.specs.Prelude.{◌≡◌, ◌+◌, ◌≤◌, ◌<◌, length, drop, IfOk, IfSome, MatchOption, None, Some};
+ghost use Rattle.std.specs.Prelude.{◌≡◌, ◌+◌, ◌≤◌, ◌<◌, ◌++◌, ◌∷◌, [], true, false, length, take, drop, IfOk, None, Some};
 ghost use Rattle.std.specs.Option.{option_map};
+ghost use Rattle.cb_cond.specs.Parts.{tokens_of};
 ghost use Rattle.cb_tree.specs.Kinds.{is_identifier_kind};
-ghost use Rattle.codebasin.specs.Defined.{question, question_within, question_behind, question_at, answer_text, answer_to, question_len, answered_behind, answered, leaves_name};
+ghost use Rattle.codebasin.specs.NameSet.{NameSet};
+ghost use Rattle.codebasin.specs.Defined.{question, question_within, question_behind, question_at, answer_token, question_len, AreDigits, answered, leaves_name};
 
 use crate::names::Names;
 use cb_paths::{Bytes, NoMemory};
@@ -72,28 +74,42 @@ fn question_at<'a>(token: &Token, behind: &'a [Token]) -> Option<Asked<'a>>
     }
 }
 
-/// The number that answers a question, in the place of its first token; a token without a question stays.
-fn answer_to(
-    alloc: Global,
-    names: &Names,
-    token: &Token,
-    asked: Option<Asked>,
-) -> Result<Token, NoMemory>
-    ensures { IfOk result (λ t. t ≡ answer_to names.now token.now (option_map question asked.entry)) }
+/// The tokens `1` and `0`, which answer questions.
+#[derive(Drop)]
+pub(crate) struct Digits {
+    one: [Token; 1],
+    zero: [Token; 1],
+}
+
+/// A number as a token.
+fn number(alloc: Global, text: &[u8]) -> Result<Token, NoMemory>
+    ensures { IfOk result (λ token. token ≡ record { kind = TokenKind.Number; text = text.now; spaced = false }) }
 {
-    let Some(asked) = asked else {
-        return Ok(Token {
-            kind: token.kind,
-            text: token.text.copy(alloc)?,
-            spaced: token.spaced,
-        });
-    };
-    let text: &[u8] = if names.has(asked.name) { b"1" } else { b"0" };
     Ok(Token {
         kind: TokenKind::Number,
         text: Bytes::from_slice(alloc, text)?,
-        spaced: token.spaced,
+        spaced: false,
     })
+}
+
+impl Digits {
+    /// Both tokens.
+    pub(crate) fn new(alloc: Global) -> Result<Digits, NoMemory>
+        ensures { IfOk result AreDigits }
+    {
+        Ok(Digits {
+            one: [number(alloc, b"1")?],
+            zero: [number(alloc, b"0")?],
+        })
+    }
+
+    /// The token that answers whether a name is defined.
+    fn answer(&self, defined: bool) -> &[Token]
+        requires { AreDigits self.now }
+        ensures { result.now ≡ answer_token defined ∷ [] }
+    {
+        if defined { &self.one } else { &self.zero }
+    }
 }
 
 /// The tokens behind a question, of those behind its first token.
@@ -107,22 +123,64 @@ fn behind<'a>(tokens: &'a [Token], asked: Option<Asked>) -> &'a [Token]
     }
 }
 
-/// The tokens of a condition, where each question is answered from the left.
-pub(crate) fn answered(
-    alloc: Global,
-    names: &Names,
-    tokens: &[Token],
-) -> Result<Vec<Token>, NoMemory>
-    ensures { IfOk result (λ answers. answers.items ≡ answered names.now tokens.now) }
+/// How many tokens stand before the first question.
+fn plain_len(tokens: &[Token]) -> usize
+    ensures within { result ≤ length tokens.now }
+    ensures plain { (names : NameSet) → answered names tokens.now ≡ take result tokens.now ++ answered names (drop result tokens.now) }
 {
-    let mut answers = Vec::new(alloc);
-    let mut rest = tokens;
-    'tokens: while !rest.is_empty() {
-        let asked = question_at(&rest[0], &rest[1..]);
-        answers.push(answer_to(alloc, names, &rest[0], asked)?)?;
-        rest = behind(&rest[1..], asked);
+    let mut len = 0;
+    'tokens: while len < tokens.len() {
+        if question_at(&tokens[len], &tokens[len + 1..]).is_some() {
+            return len;
+        }
+        len += 1;
     }
-    Ok(answers)
+    len
+}
+
+/// Whether nothing is asked.
+pub(crate) fn asks_nothing(tokens: &[Token]) -> bool
+    ensures { (names : NameSet) → result ≡ true → answered names tokens.now ≡ tokens.now }
+{
+    plain_len(tokens) == tokens.len()
+}
+
+/// The answer to the question that stands first, or the tokens up to the first question; and the tokens behind.
+fn next_part<'a>(
+    digits: &'a Digits,
+    names: &Names,
+    tokens: &'a [Token],
+) -> (&'a [Token], &'a [Token])
+    requires digits { AreDigits digits.now }
+    requires some { 0 < length tokens.now }
+    ensures answered { answered names.now tokens.now ≡ result.0.now ++ answered names.now result.1.now }
+    ensures less { length result.1.now < length tokens.now }
+{
+    let behind = &tokens[1..];
+    match question_at(&tokens[0], behind) {
+        Some(asked) => (digits.answer(names.has(asked.name)), &behind[asked.len..]),
+        None => tokens.split_at(1 + plain_len(behind)),
+    }
+}
+
+/// The tokens of a condition in parts, where each question is answered from the left.
+pub(crate) fn answered<'a>(
+    alloc: Global,
+    digits: &'a Digits,
+    names: &Names,
+    tokens: &'a [Token],
+) -> Result<Vec<&'a [Token]>, NoMemory>
+    requires { AreDigits digits.now }
+    ensures { IfOk result (λ parts. tokens_of parts.items ≡ answered names.now tokens.now) }
+{
+    let mut parts = Vec::new(alloc);
+    let mut rest = tokens;
+    'parts: while !rest.is_empty() {
+        let (part, behind) = next_part(digits, names, rest);
+        parts.push(part)?;
+        rest = behind;
+    }
+    Ok(parts)
 }
 
 /// Whether an identifier is left when the questions are answered, whatever is defined.

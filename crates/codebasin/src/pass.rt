@@ -3,12 +3,12 @@ ghost use Rattle.std.specs.Prelude.{Bool, true, false, ◌≡◌, ◌≤◌, ◌
 ghost use Rattle.std.specs.Option.{option_copied, option_map};
 ghost use Rattle.std.specs.FinSet as set;
 ghost use Rattle.cb_lines.specs.Lines.{with_line};
-ghost use Rattle.codebasin.specs.Pass.{State, first_name, macro_name, is_defined, is_undefined, is_asked, Holds, IsTruth, is_reached, state_behind, may_be_macro};
+ghost use Rattle.codebasin.specs.Pass.{State, first_name, macro_name, is_defined, is_undefined, is_asked, Holds, IsTruth, truth, is_reached, state_behind, may_be_macro};
 
-use crate::defined::answered;
+use crate::defined::{Digits, answered, asks_nothing};
 use crate::names::Names;
 use crate::section::Sections;
-use cb_cond::value;
+use cb_cond::{BadCondition, value, value_of_parts};
 use cb_paths::{Language, NoMemory};
 use cb_tokens::{Token, TokenKind};
 use cb_tree::{NodeKind, Tree};
@@ -58,12 +58,23 @@ fn macro_name(tokens: &[Token]) -> Option<&[u8]>
     if may_be_macro(name) { Some(name) } else { None }
 }
 
-/// Whether the condition of these tokens holds; one with a fault does not.
+/// What a condition with this answer holds; one with a fault is false.
+fn truth_of(answer: Result<bool, BadCondition>) -> bool
+    ensures { result ≡ truth answer }
+{
+    answer.unwrap_or(false)
+}
+
+/// Whether the condition of these tokens holds. Where it asks for no name, no memory is taken.
 fn truth(alloc: Global, names: &Names, rest: &[Token]) -> Result<bool, NoMemory>
     ensures { IfOk result (IsTruth rest.now names.now) }
 {
-    let tokens = answered(alloc, names, rest)?;
-    Ok(value(tokens.as_slice(), Language::C).unwrap_or(false))
+    if asks_nothing(rest) {
+        return Ok(truth_of(value(rest, Language::C)));
+    }
+    let digits = Digits::new(alloc)?;
+    let parts = answered(alloc, &digits, names, rest)?;
+    Ok(truth_of(value_of_parts(parts.as_slice(), Language::C)))
 }
 
 impl<'a> Pass<'a> {
