@@ -18,7 +18,7 @@ use Rattle.cb_tree.specs.Nodes.{nodes_of}
 use Rattle.cb_tree.specs.declared.node.NodeKind.{NodeKind}
 use Rattle.cb_tree.specs.declared.opening.Hash.{Hash}
 use Rattle.cb_tokens.specs.declared.token.TokenKind.TheVariants as token
-use Rattle.cb_tree.specs.Heads.{IsNamed, has_name, hash_text, hash_token, lead}
+use Rattle.cb_tree.specs.Heads.{IsNamed, IsUnnamed, hash_text, hash_token, tokens_with}
 use Rattle.cb_tree.proofs.Hash.{hash_kind}
 use Rattle.cb_tree.specs.Reads.{Reads, ReadsDirective, DirectiveStands, DirectiveGoes, Directive, node_in_brief, briefs_of, directive_on, directive_node, Tells}
 use Rattle.cb_tree.proofs.Pieces.{passes, Cuts-trans, cut_of_none, open_after}
@@ -145,18 +145,15 @@ goes_on spaced spaced' counted counted' counted'' from mid rest before between a
 -- a directive whose name tells its kind is this node
 pub named_node : (j : TokenKind) (kind : NodeKind) (hash : Hash) (spaced : Bool) (text : List ℕ) (kept : List Token) (counted : List ℕ) → j ≡ token.Identifier → IsNamed text kind
     → directive_node ((hash_token hash ∷ record { kind = j; text = text; spaced = spaced } ∷ []) ++ kept) counted
-    ≡ record { kind = kind; tokens = lead kind hash spaced ++ kept; counted = counted }
-named_node j kind hash spaced text kept counted e n = rw (e, n.kind_is kept, n.known, n.name_is) refl
+    ≡ record { kind = kind; tokens = tokens_with kind hash spaced kept; counted = counted }
+named_node j kind hash spaced text kept counted e n = rw (e, n.kind_is kept, n.line, n.known, n.name_is) refl
 
--- one whose name does not tell it keeps all its tokens
-pub no_lead : (kind : NodeKind) (hash : Hash) (spaced : Bool) (own : List Token) → has_name kind ≡ false → own ≡ lead kind hash spaced ++ own
-no_lead kind hash spaced own h = rw h refl
+-- one whose name does not tell it keeps all its tokens but the first
+pub other_node : (kind : NodeKind) (hash : Hash) (spaced : Bool) (kept : List Token) → IsUnnamed kind → hash_token hash ∷ kept ≡ tokens_with kind hash spaced kept
+other_node kind hash spaced kept h = rw (h.0, h.1) refl
 
-pub kept_all : (before one two after kept : List Token) (x y : Token) → one ≡ before ++ x ∷ [] → two ≡ one ++ y ∷ [] → after ≡ two ++ kept → after ≡ before ++ (x ∷ y ∷ kept)
-kept_all before one two after kept x y e f g =
-    g
-    ∙ (ap (λ (ts : List Token). ts ++ kept) (f ∙ ap (λ (ts : List Token). ts ++ y ∷ []) e)
-    ∙ (append_assoc (before ++ x ∷ []) (y ∷ []) kept ∙ append_assoc before (x ∷ []) (y ∷ kept)))
+pub kept_behind : (before one after kept : List Token) (x : Token) → one ≡ before ++ x ∷ [] → after ≡ one ++ kept → after ≡ before ++ (x ∷ kept)
+kept_behind before one after kept x e f = f ∙ (ap (λ (ts : List Token). ts ++ kept) e ∙ append_assoc before (x ∷ []) kept)
 
 -- the # of a directive by its spelling
 pub hash_start : (rest : List Mark) (j : TokenKind) (n : ℕ) (hash : Hash) (counted : List ℕ) (behind : List Mark)

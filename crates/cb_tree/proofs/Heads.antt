@@ -7,9 +7,9 @@ use Rattle.cb_tokens.specs.declared.token.Token.{Token}
 use Rattle.cb_tree.specs.declared.nodes.Head.{Head}
 use Rattle.cb_tree.specs.declared.node.NodeKind.{NodeKind}
 use Rattle.cb_tree.specs.declared.opening.Hash.{Hash}
-use Rattle.cb_tree.specs.Kinds.{rest_of}
+use Rattle.cb_tree.specs.Kinds.{rest_of, rest_behind_hash}
 use Rattle.cb_tree.specs.Skeleton.{Bone, bone_of}
-use Rattle.cb_tree.specs.Heads.{has_name, hash_token, name_token, lead, node_with, node_in, AreWithin, Adds}
+use Rattle.cb_tree.specs.Heads.{has_name, is_line, IsUnnamed, hash_token, name_token, lead_name, tokens_with, node_with, node_of, bone_with, node_in, AreWithin, Adds}
 
 -- more tokens behind them change no node
 pub nodes_kept : (heads : List Head) (tokens own : List Token) → AreWithin (length tokens) heads → map (node_in (tokens ++ own)) heads ≡ map (node_in tokens) heads
@@ -18,7 +18,7 @@ nodes_kept (h ∷ hs) tokens own w =
     let e : take (h.to - h.from) (drop h.from (tokens ++ own)) ≡ take (h.to - h.from) (drop h.from tokens) =
     ap (take (h.to - h.from)) (drop-append-le h.from tokens own (omega (arith, w.0)))
     ∙ take-append-le (h.to - h.from) (drop h.from tokens) own (omega (arith, w.0, length-drop h.from tokens)) in
-    ap (λ ts. node_with (lead h.kind h.hash h.spaced ++ ts) h ∷ map (node_in (tokens ++ own)) hs) e
+    ap (λ ts. node_of ts h ∷ map (node_in (tokens ++ own)) hs) e
     ∙ ap (λ ns. node_in tokens h ∷ ns) (nodes_kept hs tokens own w.1)
 
 -- what stands behind the first tokens
@@ -40,9 +40,9 @@ own_part all before own to from e f t =
 
 -- the node that is added
 own_tokens : (before after : List Token) (head : Head) (own : List Token) → Adds before after head own
-    → lead head.kind head.hash head.spaced ++ take (head.to - head.from) (drop head.from after) ≡ own
+    → tokens_with head.kind head.hash head.spaced (take (head.to - head.from) (drop head.from after)) ≡ own
 own_tokens before after head own a =
-    ap (λ (ts : List Token). lead head.kind head.hash head.spaced ++ ts) (own_part after before a.kept head.to head.from a.added a.from_is a.to_is) ∙ sym a.own_is
+    ap (tokens_with head.kind head.hash head.spaced) (own_part after before a.kept head.to head.from a.added a.from_is a.to_is) ∙ sym a.own_is
 
 pub nodes_more : (heads : List Head) (head : Head) (before after own : List Token) → AreWithin (length before) heads → Adds before after head own
     → map (node_in after) (heads ++ head ∷ []) ≡ map (node_in before) heads ++ node_with own head ∷ []
@@ -81,42 +81,51 @@ node_at (x ∷ xs) tokens zero h lt e = ap (λ (y : Head). Some (node_in tokens 
 node_at (x ∷ xs) tokens (suc i) h lt e = node_at xs tokens i h (omega arith) e
 
 -- what of it stands behind its name
-pub rest_of_named : (kind : NodeKind) (hash : Hash) (spaced : Bool) (kept : List Token) → has_name kind ≡ true → rest_of (lead kind hash spaced ++ kept) ≡ kept
-rest_of_named kind hash spaced kept h = rw h refl
+pub rest_of_text : (kind : NodeKind) (hash : Hash) (spaced : Bool) (kept : List Token) → is_line kind ≡ false → rest_of (tokens_with kind hash spaced kept) ≡ []
+rest_of_text kind hash spaced kept l = rw l refl
 
-pub rest_of_other : (kind : NodeKind) (hash : Hash) (spaced : Bool) (kept : List Token) → has_name kind ≡ false → rest_of (lead kind hash spaced ++ kept) ≡ rest_of kept
-rest_of_other kind hash spaced kept h = rw h refl
+pub rest_of_named : (kind : NodeKind) (hash : Hash) (spaced : Bool) (kept : List Token) → is_line kind ≡ true → has_name kind ≡ true
+    → rest_of (tokens_with kind hash spaced kept) ≡ kept
+rest_of_named kind hash spaced kept l h = rw (l, h) refl
 
--- its tokens in two parts
-abbrev first_two : Bool → Token → Token → List Token
-first_two b x y = if b then x ∷ y ∷ [] else []
+pub rest_of_other : (kind : NodeKind) (hash : Hash) (spaced : Bool) (kept : List Token) → IsUnnamed kind → rest_of (tokens_with kind hash spaced kept) ≡ rest_behind_hash kept
+rest_of_other kind hash spaced kept h = rw (h.0, h.1) refl
 
-parted : (b : Bool) (x y x' y' : Token) (ts ts' : List Token) → first_two b x y ++ ts ≡ first_two b x' y' ++ ts'
-    → (first_two b x y ≡ first_two b x' y') × (ts ≡ ts')
-parted false x y x' y' ts ts' h = (refl, h)
-parted true x y x' y' ts ts' h =
-    let e : x ≡ x' = cc in
+-- nodes that agree but for their lines are of one kind
+pub bone_kind : (a b : Head) (ts ts' : List Token) → bone_with ts a ≡ bone_with ts' b → a.kind ≡ b.kind
+bone_kind a b ts ts' h = ap (λ (bone : Bone). bone.kind) h
+
+-- texts agree
+pub bones_text : (a b : Head) (ts ts' : List Token) → a.kind ≡ b.kind → is_line a.kind ≡ false → bone_with ts a ≡ bone_with ts' b
+bones_text a b ts ts' k l = rw (sym k, l) refl
+
+-- directives agree where their tokens do
+pub bones_line : (a b : Head) (ts ts' : List Token) → a.kind ≡ b.kind → hash_token a.hash ≡ hash_token b.hash
+    → lead_name a.kind a.spaced ≡ lead_name a.kind b.spaced → ts ≡ ts' → bone_with ts a ≡ bone_with ts' b
+bones_line a b ts ts' k x n t = rw (sym k, x, n, t) refl
+
+-- and only there
+abbrev named_before : Bool → Token → List Token → List Token
+named_before b y ts = (if b then y ∷ [] else []) ++ ts
+
+parted : (b : Bool) (y y' : Token) (ts ts' : List Token) → named_before b y ts ≡ named_before b y' ts'
+    → ((if b then y ∷ [] else []) ≡ (if b then y' ∷ [] else [])) × (ts ≡ ts')
+parted false y y' ts ts' h = (refl, h)
+parted true y y' ts ts' h =
     let f : y ≡ y' = cc in
     let g : ts ≡ ts' = cc in
-    (ap (λ (t : Token). t ∷ y ∷ []) e ∙ ap (λ (t : Token). x' ∷ t ∷ []) f, g)
+    (ap (λ (t : Token). t ∷ []) f, g)
 
--- two nodes agree but for their lines where their parts agree
-pub same_parts : (a b : Head) (ts ts' : List Token) → a.kind ≡ b.kind → lead a.kind a.hash a.spaced ≡ lead b.kind b.hash b.spaced → ts ≡ ts'
-    → bone_of (node_with (lead a.kind a.hash a.spaced ++ ts) a) ≡ bone_of (node_with (lead b.kind b.hash b.spaced ++ ts') b)
-same_parts a b ts ts' k l t = cc
+cons_parts : (x y : Token) (xs ys : List Token) → x ∷ xs ≡ y ∷ ys → (x ≡ y) × (xs ≡ ys)
+cons_parts x y xs ys h = (cc, cc)
+
+pub bone_parts : (a b : Head) (ts ts' : List Token) → a.kind ≡ b.kind → is_line a.kind ≡ true → bone_with ts a ≡ bone_with ts' b
+    → (hash_token a.hash ≡ hash_token b.hash) × (lead_name a.kind a.spaced ≡ lead_name a.kind b.spaced) × (ts ≡ ts')
+bone_parts a b ts ts' k l h =
+    let t : tokens_with a.kind a.hash a.spaced ts ≡ tokens_with b.kind b.hash b.spaced ts' = ap (λ (bone : Bone). bone.tokens) h in
+    let u = cons_parts (hash_token a.hash) (hash_token b.hash) (lead_name a.kind a.spaced ++ ts) (lead_name a.kind b.spaced ++ ts') (rw (sym k, l) at t) in
+    let v = parted (has_name a.kind) (name_token a.kind a.spaced) (name_token a.kind b.spaced) ts ts' u.1 in
+    (u.0, v.0, v.1)
 
 pub same_of_some : (x y : Bone) → ◌≡◌ {A = Option Bone} (Some x) (Some y) → x ≡ y
 same_of_some x y h = cc
-
--- and only there
-pub same_bones : (a b : Head) (ts ts' : List Token)
-    → bone_of (node_with (lead a.kind a.hash a.spaced ++ ts) a) ≡ bone_of (node_with (lead b.kind b.hash b.spaced ++ ts') b)
-    → (a.kind ≡ b.kind) × (lead a.kind a.hash a.spaced ≡ lead b.kind b.hash b.spaced) × (ts ≡ ts')
-same_bones a b ts ts' h =
-    let k : a.kind ≡ b.kind = ap (λ (bone : Bone). bone.kind) h in
-    let t : lead a.kind a.hash a.spaced ++ ts ≡ lead b.kind b.hash b.spaced ++ ts' = ap (λ (bone : Bone). bone.tokens) h in
-    let P : NodeKind → Type 0 = λ kind. lead a.kind a.hash a.spaced ++ ts ≡ lead kind b.hash b.spaced ++ ts' in
-    let Q : NodeKind → Type 0 = λ kind. (lead a.kind a.hash a.spaced ≡ lead kind b.hash b.spaced) × (ts ≡ ts') in
-    let q : Q b.kind =
-    subst Q k (parted (has_name a.kind) (hash_token a.hash) (name_token a.kind a.spaced) (hash_token b.hash) (name_token a.kind b.spaced) ts ts' (subst P (sym k) t)) in
-    (k, q.0, q.1)

@@ -10,6 +10,7 @@ use Rattle.cb_tree.specs.declared.nodes.Head.{Head}
 use Rattle.std.specs.Str.{bytes_eq}
 use Rattle.cb_tree.specs.Kinds.{kind_of_name, begins_with_name}
 use Rattle.cb_tree.specs.Nodes.{Node}
+use Rattle.cb_tree.specs.Skeleton.{Bone, bone_of}
 
 -- a directive of the kind is known by its name alone
 abbrev pub has_name : NodeKind → Bool
@@ -27,7 +28,23 @@ has_name Once = false
 has_name Error = true
 has_name Other = false
 
--- this name
+-- a node of the kind is a directive line
+abbrev pub is_line : NodeKind → Bool
+is_line Text = false
+is_line If = true
+is_line Ifdef = true
+is_line Ifndef = true
+is_line Elif = true
+is_line Else = true
+is_line Endif = true
+is_line Define = true
+is_line Undef = true
+is_line Include = true
+is_line Once = true
+is_line Error = true
+is_line Other = true
+
+-- the name of a directive of the kind
 abbrev pub name_of : NodeKind → List ℕ
 name_of Text = []
 name_of If = codes "if"
@@ -47,11 +64,16 @@ name_of Other = []
 pub record IsNamed (name : List ℕ) (kind : NodeKind) : Type 0 where
   pub name_is : name ≡ name_of kind
   pub known : has_name kind ≡ true
+  pub line : is_line kind ≡ true
   pub kind_is : (more : List Token) → kind_of_name name more ≡ kind
 
 -- the kind of a directive with any other name
 abbrev pub unnamed_kind : List ℕ → List Token → NodeKind
 unnamed_kind name more = if bytes_eq name (codes "pragma") then (if begins_with_name (codes "once") more then Once else Other) else Other
+
+-- a directive line of the kind is not known by its name alone
+abbrev pub IsUnnamed : NodeKind → Type 0
+IsUnnamed kind = (is_line kind ≡ true) × (has_name kind ≡ false)
 
 -- the bytes of a #
 abbrev pub hash_text : Hash → List ℕ
@@ -66,17 +88,29 @@ hash_token hash = record { kind = token.Punct; spaced = false; text = hash_text 
 abbrev pub name_token : NodeKind → Bool → Token
 name_token kind spaced = record { kind = token.Identifier; spaced = spaced; text = name_of kind }
 
--- the # and the name of a directive that is known by its name
-abbrev pub lead : NodeKind → Hash → Bool → List Token
-lead kind hash spaced = if has_name kind then hash_token hash ∷ name_token kind spaced ∷ [] else []
+-- the name of a directive that is known by its name
+abbrev pub lead_name : NodeKind → Bool → List Token
+lead_name kind spaced = if has_name kind then name_token kind spaced ∷ [] else []
+
+-- the tokens of a node, of which these are kept: not the # of a directive, nor its name where the directive is known by it
+abbrev pub tokens_with : NodeKind → Hash → Bool → List Token → List Token
+tokens_with kind hash spaced kept = if is_line kind then hash_token hash ∷ (lead_name kind spaced ++ kept) else []
 
 -- a node of these tokens
 abbrev pub node_with : List Token → Head → Node
 node_with own h = record { kind = h.kind; tokens = own; counted = h.counted }
 
+-- a node of which these tokens are kept
+abbrev pub node_of : List Token → Head → Node
+node_of kept h = node_with (tokens_with h.kind h.hash h.spaced kept) h
+
+-- and it without its lines
+abbrev pub bone_with : List Token → Head → Bone
+bone_with kept h = bone_of (node_of kept h)
+
 -- a node, where these are the tokens that are kept of all nodes
 abbrev pub node_in : List Token → Head → Node
-node_in tokens h = node_with (lead h.kind h.hash h.spaced ++ take (h.to - h.from) (drop h.from tokens)) h
+node_in tokens h = node_of (take (h.to - h.from) (drop h.from tokens)) h
 
 -- the tokens that are kept of each node lie among so many
 abbrev pub AreWithin : ℕ → List Head → Type 0
@@ -89,4 +123,4 @@ pub record Adds (before after : List Token) (head : Head) (own : List Token) : T
   pub added : after ≡ before ++ kept
   pub from_is : head.from ≡ length before
   pub to_is : head.to ≡ length after
-  pub own_is : own ≡ lead head.kind head.hash head.spaced ++ kept
+  pub own_is : own ≡ tokens_with head.kind head.hash head.spaced kept

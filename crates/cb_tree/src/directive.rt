@@ -5,11 +5,11 @@ ghost use Rattle.cb_tokens.specs.Cut.{StandsFirst};
 ghost use Rattle.cb_tokens.specs.declared.first.First.{First};
 ghost use Rattle.cb_tree.specs.Kinds.{is_hash_text, kind_behind_hash};
 ghost use Rattle.cb_tokens.specs.declared.token.Token.{Token};
-ghost use Rattle.cb_tree.specs.Heads.{Adds, IsNamed, has_name, hash_token, node_with};
+ghost use Rattle.cb_tree.specs.Heads.{Adds, IsNamed, IsUnnamed, hash_token, node_with};
 ghost use Rattle.cb_tree.specs.Reads.{Reads, DirectiveGoes, HeadReads, HeadTells, Tells};
 
 use crate::fault::BuildFault;
-use crate::kind::kind_of;
+use crate::kind::kind_behind_hash;
 use crate::node::NodeKind;
 use crate::nodes::{Head, part};
 use crate::opening::{Hash, Second, hash_of, kind_ahead, pass_to_second};
@@ -97,29 +97,6 @@ fn read_behind(
     }
 }
 
-/// A directive line of a `#` alone.
-fn read_bare(
-    alloc: Global,
-    tokens: &mut Vec<Token>,
-    counted: Lines,
-    hash: Hash,
-) -> Result<Head, NoMemory>
-    ensures kept { IfOk result (λ head. Adds tokens.old.items tokens.new.items head (hash_token hash ∷ [])) }
-    ensures kind { IfOk result (λ head. head.kind ≡ NodeKind.Other) }
-    ensures counted { IfOk result (λ head. head.counted ≡ counted) }
-{
-    let from = tokens.len();
-    keep_token(alloc, tokens, TokenKind::Punct, hash.bytes(), false)?;
-    Ok(Head {
-        from,
-        to: tokens.len(),
-        kind: NodeKind::Other,
-        hash,
-        spaced: false,
-        counted,
-    })
-}
-
 /// Reads a directive line whose name tells its kind.
 fn read_named(
     alloc: Global,
@@ -163,7 +140,7 @@ fn read_other(
 ) -> Result<Head, BuildFault>
     requires stands { StandsFirst (bytes_of walk.old) (First.Piece (PieceKind.Token second.token.kind) second.token.len) }
     requires unnamed { (spaced : Bool) (more : List Token)
-        → has_name (kind_behind_hash (record { kind = second.token.kind; spaced = spaced; text = take second.token.len (bytes_of walk.old) } ∷ more)) ≡ false }
+        → IsUnnamed (kind_behind_hash (record { kind = second.token.kind; spaced = spaced; text = take second.token.len (bytes_of walk.old) } ∷ more)) }
     ensures reads { IfOk result (HeadReads (hash_token hash ∷ []) second.spaced counted walk.old tokens.old.items tokens.new.items walk.new) }
     ensures shorter { OnOk result (length walk.new ≤ length walk.old) }
     ensures few { IfOk result (λ head. length head.counted + length walk.new ≤ length counted + length walk.old) }
@@ -171,13 +148,12 @@ fn read_other(
 {
     let from = tokens.len();
     let mut counted = counted;
-    keep_token(alloc, tokens, TokenKind::Punct, hash.bytes(), false)?;
     let text = &walk.rest()[..second.token.len];
     keep_token(alloc, tokens, second.token.kind, text, second.spaced)?;
     pass_counted(walk, second.token, &mut counted)?;
     read_behind(alloc, walk, tokens, &mut counted, false)?;
     let to = tokens.len();
-    let kind = kind_of(part(tokens.as_slice(), from, to));
+    let kind = kind_behind_hash(part(tokens.as_slice(), from, to));
     Ok(Head {
         from,
         to,
@@ -202,8 +178,15 @@ fn read_behind_hash(
     ensures tells { IfErr result (HeadTells (hash_token hash ∷ []) false counted walk.old) }
 {
     let Some(second) = pass_to_second(walk)? else {
-        let head = read_bare(alloc, tokens, counted, hash)?;
-        return Ok(head);
+        let count = tokens.len();
+        return Ok(Head {
+            from: count,
+            to: count,
+            kind: NodeKind::Other,
+            hash,
+            spaced: false,
+            counted,
+        });
     };
     match kind_ahead(walk, second.token) {
         Some(kind) => {

@@ -1,8 +1,8 @@
 //! The kind of a directive line, and what stands behind its name.
 ghost use Rattle.std.specs.Prelude.{◌≡◌, List, length, codes, IfSome, IfNone};
 ghost use Rattle.cb_tokens.specs.declared.token.Token.{Token};
-ghost use Rattle.cb_tree.specs.Heads.{has_name, unnamed_kind, IsNamed};
-ghost use Rattle.cb_tree.specs.Kinds.{is_identifier_kind, is_hash_text, begins_with_name, kind_of_name, kind_of, rest_of};
+ghost use Rattle.cb_tree.specs.Heads.{has_name, is_line, unnamed_kind, IsNamed};
+ghost use Rattle.cb_tree.specs.Kinds.{is_identifier_kind, is_hash_text, begins_with_name, kind_of_name, kind_behind_hash, rest_behind_hash};
 
 use crate::node::NodeKind;
 use cb_tokens::{Token, TokenKind};
@@ -35,17 +35,13 @@ fn begins_with_once(tokens: &[Token]) -> bool
     }
 }
 
-/// The tokens of a directive line behind its name, or behind its `#` where no identifier follows that.
-pub(crate) fn rest(tokens: &[Token]) -> &[Token]
-    ensures { result.now ≡ rest_of tokens.now }
+/// What stands behind the name among the tokens behind a `#`; all of them where they begin with no name.
+pub(crate) fn rest_behind_hash(tokens: &[Token]) -> &[Token]
+    ensures { result.now ≡ rest_behind_hash tokens.now }
 {
-    if tokens.len() < 2 {
-        return &tokens[tokens.len()..];
-    }
-    if is_identifier(&tokens[1]) {
-        &tokens[2..]
-    } else {
-        &tokens[1..]
+    match tokens {
+        [first, rest @ ..] if is_identifier(first) => rest,
+        _ => tokens,
     }
 }
 
@@ -99,6 +95,13 @@ pub(crate) fn has_name(kind: NodeKind) -> bool
     }
 }
 
+/// Whether a node of the kind is a directive line.
+pub(crate) fn is_line(kind: NodeKind) -> bool
+    ensures { result ≡ is_line kind }
+{
+    kind != NodeKind::Text
+}
+
 /// The kind of a directive by its name and the tokens behind that.
 fn kind_of_name(name: &[u8], rest: &[Token]) -> NodeKind
     ensures { result ≡ kind_of_name name.now rest.now }
@@ -110,16 +113,12 @@ fn kind_of_name(name: &[u8], rest: &[Token]) -> NodeKind
     }
 }
 
-/// The kind of a directive line.
-pub(crate) fn kind_of(tokens: &[Token]) -> NodeKind
-    ensures { result ≡ kind_of tokens.now }
+/// The kind of a directive by the tokens behind its `#`.
+pub(crate) fn kind_behind_hash(tokens: &[Token]) -> NodeKind
+    ensures { result ≡ kind_behind_hash tokens.now }
 {
-    if tokens.len() < 2 {
-        return NodeKind::Other;
-    }
-    if is_identifier(&tokens[1]) {
-        kind_of_name(tokens[1].text.as_slice(), &tokens[2..])
-    } else {
-        NodeKind::Other
+    match tokens {
+        [first, rest @ ..] if is_identifier(first) => kind_of_name(first.text.as_slice(), rest),
+        _ => NodeKind::Other,
     }
 }

@@ -1,11 +1,11 @@
 //! The nodes of a source, with the tokens of all directives in one list.
-ghost use Rattle.std.specs.Prelude.{◌≡◌, ◌-◌, ◌<◌, ◌≤◌, ◌↔◌, ◌++◌, length, take, drop, slice_get, Some, IsTrue};
+ghost use Rattle.std.specs.Prelude.{◌≡◌, ◌-◌, ◌<◌, ◌≤◌, ◌↔◌, length, take, drop, slice_get, Some, IsTrue};
 ghost use Rattle.std.specs.Option.{option_map};
-ghost use Rattle.cb_tree.specs.Heads.{lead, node_with};
+ghost use Rattle.cb_tree.specs.Heads.{hash_token, lead_name, node_of, bone_with};
 ghost use Rattle.cb_tree.specs.Nodes.{node_rest};
 ghost use Rattle.cb_tree.specs.Skeleton.{bone_of};
 
-use crate::kind::{has_name, rest};
+use crate::kind::{has_name, is_line, rest_behind_hash};
 use crate::node::NodeKind;
 use crate::opening::Hash;
 use crate::skeleton::are_same_tokens;
@@ -22,9 +22,9 @@ pub(crate) struct Head {
     pub(crate) to: usize,
     /// Its kind.
     pub(crate) kind: NodeKind,
-    /// The spelling of its `#`, where its name tells its kind.
+    /// The spelling of the `#` of a directive.
     pub(crate) hash: Hash,
-    /// Whether its name is spaced, where this tells its kind.
+    /// Whether the name of a directive is spaced, where this tells the kind.
     pub(crate) spaced: bool,
     /// The set of its counted lines.
     pub(crate) counted: Lines,
@@ -60,11 +60,24 @@ pub(crate) fn part(tokens: &[Token], from: usize, to: usize) -> &[Token]
     &tokens[from..to]
 }
 
-/// Whether two nodes agree in kind, and in the tokens that are not kept.
-fn are_same_heads(a: &Head, b: &Head) -> bool
-    ensures { IsTrue result ↔ ((a.now.kind ≡ b.now.kind) × (lead a.now.kind a.now.hash a.now.spaced ≡ lead b.now.kind b.now.hash b.now.spaced)) }
+/// Whether two directives of one kind agree in the tokens that are not kept.
+fn are_same_leads(a: &Head, b: &Head) -> bool
+    ensures { IsTrue result ↔ ((hash_token a.now.hash ≡ hash_token b.now.hash) × (lead_name a.now.kind a.now.spaced ≡ lead_name a.now.kind b.now.spaced)) }
 {
-    a.kind == b.kind && (!has_name(a.kind) || (a.hash == b.hash && a.spaced == b.spaced))
+    a.hash == b.hash && (!has_name(a.kind) || a.spaced == b.spaced)
+}
+
+/// Whether two nodes agree but for their lines, where these are the tokens that are kept of them.
+fn are_same(a: &Head, own: &[Token], b: &Head, others: &[Token]) -> bool
+    ensures { IsTrue result ↔ (bone_with own.now a.now ≡ bone_with others.now b.now) }
+{
+    if a.kind != b.kind {
+        return false;
+    }
+    if !is_line(a.kind) {
+        return true;
+    }
+    are_same_leads(a, b) && are_same_tokens(own, others)
 }
 
 impl Nodes {
@@ -86,7 +99,7 @@ impl Nodes {
     /// A node but for its tokens, and those of them that are kept.
     fn kept(&self, at: usize) -> (&Head, &[Token])
         requires { at < length self.now }
-        ensures { slice_get self.now at ≡ Some (node_with (lead result.0.now.kind result.0.now.hash result.0.now.spaced ++ result.1.now) result.0.now) }
+        ensures { slice_get self.now at ≡ Some (node_of result.1.now result.0.now) }
     {
         let head = &self.heads[at];
         (head, part(self.tokens.as_slice(), head.from, head.to))
@@ -98,10 +111,10 @@ impl Nodes {
         ensures { option_map node_rest (slice_get self.now at) ≡ Some result.now }
     {
         let (head, kept) = self.kept(at);
-        if has_name(head.kind) {
-            kept
-        } else {
-            rest(kept)
+        match head.kind {
+            NodeKind::Text => &[],
+            NodeKind::Once | NodeKind::Other => rest_behind_hash(kept),
+            _ => kept,
         }
     }
 
@@ -112,7 +125,7 @@ impl Nodes {
     {
         let (a, own) = self.kept(at);
         let (b, others) = other.kept(at);
-        are_same_heads(a, b) && are_same_tokens(own, others)
+        are_same(a, own, b, others)
     }
 
     /// The set of the counted lines of a node.

@@ -1,6 +1,6 @@
 //! How directive lines begin.
 //!
-//! Most of them begin with `#` and a name that tells their kind. These two tokens follow from the kind and take no room in a tree.
+//! A tree keeps no `#`, and no name of a directive that tells its kind.
 ghost use Rattle.std.specs.Prelude.{ℕ, ◌≡◌, ◌≤◌, ◌∷◌, Bool, List, length, take, true, false, IfOk, IfErr, IfNone, IfSome, OnOk};
 ghost use Rattle.cb_lines.specs.declared.mark.Mark.{Mark};
 ghost use Rattle.cb_lines.specs.Marks.{bytes_of};
@@ -8,7 +8,7 @@ ghost use Rattle.cb_tokens.specs.Cut.{StandsFirst};
 ghost use Rattle.cb_tokens.specs.declared.first.First.{First};
 ghost use Rattle.cb_tokens.specs.declared.token.Token.{Token};
 ghost use Rattle.cb_tree.specs.Kinds.{is_hash_text, kind_behind_hash};
-ghost use Rattle.cb_tree.specs.Heads.{hash_text, has_name, IsNamed};
+ghost use Rattle.cb_tree.specs.Heads.{hash_text, IsNamed, IsUnnamed};
 ghost use Rattle.cb_tree.specs.Reads.{ReadsDirective, StandsBehind, Tells};
 
 use crate::fault::BuildFault;
@@ -34,18 +34,6 @@ pub(crate) struct Second {
     pub(crate) token: Start,
     /// Whether white space or a comment stands before it.
     pub(crate) spaced: bool,
-}
-
-impl Hash {
-    /// Its bytes.
-    pub(crate) fn bytes(self) -> &'static [u8]
-        ensures { result.now ≡ hash_text self }
-    {
-        match self {
-            Hash::Sign => b"#",
-            Hash::Digraph => b"%:",
-        }
-    }
 }
 
 /// The spelling that these bytes are.
@@ -103,7 +91,7 @@ pub(crate) fn kind_ahead(walk: &Walk, token: Start) -> Option<NodeKind>
     requires { StandsFirst (bytes_of walk.now) (First.Piece (PieceKind.Token token.kind) token.len) }
     ensures named { IfSome result (λ kind. (token.kind ≡ TokenKind.Identifier) × IsNamed (take token.len (bytes_of walk.now)) kind) }
     ensures other { IfNone result ((spaced : Bool) (more : List Token)
-        → has_name (kind_behind_hash (record { kind = token.kind; spaced = spaced; text = take token.len (bytes_of walk.now) } ∷ more)) ≡ false) }
+        → IsUnnamed (kind_behind_hash (record { kind = token.kind; spaced = spaced; text = take token.len (bytes_of walk.now) } ∷ more))) }
 {
     match token.kind {
         TokenKind::Identifier => named_kind(&walk.rest()[..token.len]),

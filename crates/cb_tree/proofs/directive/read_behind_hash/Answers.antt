@@ -1,4 +1,5 @@
-use Rattle.std.proofs.Common.{[], ◌∷◌}
+use Rattle.std.proofs.Common.{[], ◌∷◌, refl, sym, ◌∙◌}
+use Rattle.std.proofs.lemmas.List.{append-nil}
 use Rattle.std.proofs.lemmas.Result.{err_from_is_err_and}
 use Rattle.cb_tree.specs.Heads.{hash_token}
 use Rattle.cb_tree.proofs.directive.read_behind_hash.Goals as goal
@@ -11,9 +12,14 @@ returns-in_err-second-clause-tells c =
 pub returns-in_default-clause-reads : goal.returns-in_default-clause-reads
 returns-in_default-clause-reads c = λ ms line. (
   hash_token c.args.hash ∷ [],
-  c.in_ok-head.ensures.kept,
-  rw (c.in_ok-head.ensures.kind, c.in_ok-head.ensures.counted)
-      ((rw c.in_default.is at c.in_ok-second.ensures.goes) ms (hash_token c.args.hash ∷ []) c.args.counted line),
+  record {
+    kept = [];
+    added = sym (append-nil c.args.tokens.now.items);
+    from_is = c.len-count.ensures ∙ c.args.tokens.now.ok.0;
+    to_is = c.len-count.ensures ∙ c.args.tokens.now.ok.0;
+    own_is = refl;
+  },
+  (rw c.in_default.is at c.in_ok-second.ensures.goes) ms (hash_token c.args.hash ∷ []) c.args.counted line,
 )
 
 pub returns-in_err-head-in-Some-kind_ahead-clause-tells : goal.returns-in_err-head-in-Some-kind_ahead-clause-tells

@@ -3,7 +3,7 @@ use Rattle.std.proofs.lemmas.Result.{err_from_is_err_and}
 use Rattle.cb_lines.specs.Marks.{bytes_of}
 use Rattle.cb_tokens.specs.declared.token.PieceKind.TheVariants as kinds
 use Rattle.cb_tree.specs.Nodes.{Node}
-use Rattle.cb_tree.specs.Heads.{hash_token, lead}
+use Rattle.cb_tree.specs.Heads.{hash_token, tokens_with}
 use Rattle.cb_tree.specs.Reads.{Reads}
 use Rattle.cb_tree.proofs.Pieces.{within}
 use Rattle.cb_tree.proofs.Runs.{kept_few}
@@ -18,7 +18,7 @@ returns-clause-reads c = λ ms line.
     rw (c.in_ok-pass_counted.ensures.passed, c.in_ok-pass_counted.ensures.counted) at g.goes ms
     (hash_token c.args.hash ∷ record { kind = c.args.name.token.kind; text = text; spaced = c.args.name.spaced } ∷ []) in
     (
-      lead c.args.kind c.args.hash c.args.name.spaced ++ g.kept,
+      tokens_with c.args.kind c.args.hash c.args.name.spaced g.kept,
       record {
         kept = g.kept;
         added = g.added;
