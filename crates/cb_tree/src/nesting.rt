@@ -69,9 +69,11 @@ fn open_section(alloc: Global, nesting: &mut Nesting, node: u32) -> Result<(), N
     ensures { OnOk result (Places nesting.old Role.Opens node 0 1 nesting.new) }
 {
     let before = mem::replace(&mut nesting.parts, Items::new(alloc));
+    // most sections have one or two groups
+    let groups = Items::from_vec(Vec::with_capacity(alloc, 2)?);
     nesting.frames.push(Frame {
         before,
-        groups: Items::new(alloc),
+        groups,
         head: node,
     })?;
     Ok(())
