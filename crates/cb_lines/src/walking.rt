@@ -78,9 +78,10 @@ impl<'a> Walk<'a> {
         self.line = line;
     }
 
-    /// The bytes of the marks that are left before the next splice. Those up to the first LF, this among them, stand on the line
-    /// of the first one.
+    /// The bytes of the marks that are left before the next splice: at least one, if a mark is left. Those up to the first LF,
+    /// this among them, stand on the line of the first one.
     pub fn row(&self) -> &'a [u8]
+        ensures some { 0 < length self.now → 0 < length result.now }
         ensures within { length result.now ≤ length self.now }
         ensures front { result.now ≡ take (length result.now) (bytes_of self.now) }
         ensures one_line { (count : ℕ) → count ≤ length result.now → ((k : ℕ) → k + 1 < count → is_line_feed (slice_index result.now k) ≡ false)
