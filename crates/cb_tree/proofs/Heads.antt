@@ -1,5 +1,5 @@
 -- Nodes whose tokens lie one behind another.
-use Rattle.std.proofs.Common.{◌≡◌, ℕ, Bool, true, false, if◌then◌else◌, subst, ◌+◌, ◌-◌, ◌<◌, ◌≤◌, List, [], ◌∷◌, ◌++◌, length, get_or, take, drop, map, Option, Some, refl, ap, sym, ◌∙◌, arith, length-append, length-drop}
+use Rattle.std.proofs.Common.{◌≡◌, ℕ, Bool, true, false, if◌then◌else◌, ◌+◌, ◌-◌, ◌<◌, ◌≤◌, List, [], ◌∷◌, ◌++◌, length, get_or, take, drop, map, Option, Some, refl, ap, sym, ◌∙◌, arith, length-append, length-drop}
 use Prim.Native.Nat.{zero, suc}
 use Rattle.std.specs.Prelude.{slice_get}
 use Rattle.std.proofs.lemmas.List.{map-append, take_all, drop_all, take-append-le, drop-append-le}
@@ -8,7 +8,7 @@ use Rattle.cb_tree.specs.declared.nodes.Head.{Head}
 use Rattle.cb_tree.specs.declared.node.NodeKind.{NodeKind}
 use Rattle.cb_tree.specs.declared.opening.Hash.{Hash}
 use Rattle.cb_tree.specs.Kinds.{rest_of, rest_behind_hash}
-use Rattle.cb_tree.specs.Skeleton.{Bone, bone_of}
+use Rattle.cb_tree.specs.Skeleton.{Bone}
 use Rattle.cb_tree.specs.Heads.{has_name, is_line, IsUnnamed, hash_token, name_token, lead_name, tokens_with, node_with, node_of, bone_with, node_in, AreWithin, Adds}
 
 -- more tokens behind them change no node

@@ -206,4 +206,53 @@ mod tests {
         assert!(rt; same.same_skeleton(&other));
         Ok(())
     }
+
+    #[test]
+    fn skeletons_tell_directives_apart(rt: HostRuntime) -> Result<(), Fail> {
+        for (a, b, agree) in [
+            (b"#undef A".as_slice(), b"\n#undef A".as_slice(), true),
+            (b"#undef A".as_slice(), b"x;\n#undef A".as_slice(), false),
+            (b"#undef A".as_slice(), b"%:undef A".as_slice(), false),
+            (b"#undef A".as_slice(), b"# undef A".as_slice(), false),
+            (b"#undef A".as_slice(), b"#undef B".as_slice(), false),
+            (b"# undef A".as_slice(), b"#/**/undef A".as_slice(), true),
+            (b"#".as_slice(), b"%:".as_slice(), false),
+            (b"#".as_slice(), b"# // c".as_slice(), true),
+            (b"# 1 2".as_slice(), b"# 1 2".as_slice(), true),
+            (b"# 1 2".as_slice(), b"#1 2".as_slice(), false),
+            (b"# line 2".as_slice(), b"# line 3".as_slice(), false),
+        ] {
+            let tree = build(rt.alloc(), a)?;
+            let other = build(rt.alloc(), b)?;
+            assert_eq!(rt; tree.same_skeleton(&other), agree, "{a:?} {b:?}");
+        }
+        for (source, rest) in [
+            (b"%: undef A".as_slice(), 1),
+            (b"#".as_slice(), 0),
+            (b"# 1 2".as_slice(), 2),
+            (b"#line 2".as_slice(), 1),
+            (b"#pragma once".as_slice(), 1),
+            (b"x y".as_slice(), 0),
+        ] {
+            assert_eq!(rt;
+                build(rt.alloc(), source)?.rest(1).len(),
+                rest,
+                "{source:?}"
+            );
+        }
+        Ok(())
+    }
+
+    #[test]
+    fn faults_are_written(rt: HostRuntime) -> Result<(), Fail> {
+        let fault = BadSource {
+            kind: SourceKind::OpenIf,
+            line: 7,
+        };
+        let text = format!(in rt.alloc(); "{}", BuildFault::Bad(fault))?;
+        assert_eq!(rt; text.as_str(), "line 7: a section has no #endif");
+        let text = format!(in rt.alloc(); "{}", BuildFault::NoMemory)?;
+        assert_eq!(rt; text.as_str(), "out of memory");
+        Ok(())
+    }
 }

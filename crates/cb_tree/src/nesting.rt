@@ -13,6 +13,14 @@ use sqlite_items::Items;
 use std::alloc::Global;
 use std::mem;
 
+/// An empty list with room for two: more parts or groups than these are rare, and so are fewer.
+fn with_room<T>(alloc: Global) -> Result<Items<T>, NoMemory>
+    ensures { IfOk result (λ items. items ≡ []) }
+{
+    let items = Vec::with_capacity(alloc, 2)?;
+    Ok(Items::from_vec(items))
+}
+
 /// Adds a plain node to parts.
 fn push_plain(parts: &mut Parts, node: u32) -> Result<(), NoMemory>
     ensures { OnOk result (places_of parts.new ≡ places_of parts.old ++ record { role = Role.Within; node = node } ∷ []) }
@@ -68,12 +76,10 @@ fn stay(nesting: &mut Nesting, node: u32) -> Result<(), NoMemory>
 fn open_section(alloc: Global, nesting: &mut Nesting, node: u32) -> Result<(), NoMemory>
     ensures { OnOk result (Places nesting.old Role.Opens node 0 1 nesting.new) }
 {
-    let before = mem::replace(&mut nesting.parts, Items::new(alloc));
-    // most sections have one or two groups
-    let groups = Items::from_vec(Vec::with_capacity(alloc, 2)?);
+    let before = mem::replace(&mut nesting.parts, with_room(alloc)?);
     nesting.frames.push(Frame {
         before,
-        groups,
+        groups: with_room(alloc)?,
         head: node,
     })?;
     Ok(())
@@ -84,7 +90,7 @@ fn turn_section(alloc: Global, nesting: &mut Nesting, node: u32) -> Result<(), N
     requires { 0 < length nesting.old.frames.items }
     ensures { OnOk result (Places nesting.old Role.Turns node 0 0 nesting.new) }
 {
-    let parts = mem::replace(&mut nesting.parts, Items::new(alloc));
+    let parts = mem::replace(&mut nesting.parts, with_room(alloc)?);
     let Some(frame) = nesting.frames.pop() else {
         unreachable!()
     };
@@ -145,12 +151,7 @@ pub(crate) fn nest(alloc: Global, nodes: &Nodes) -> Result<Parts, NoMemory>
         parts: Items::new(alloc),
     };
     for i in 0..nodes.len() {
-        place(
-            alloc,
-            &mut nesting,
-            find_role(nodes.kind(i)),
-            i as u32 + 1,
-        )?;
+        place(alloc, &mut nesting, find_role(nodes.kind(i)), i as u32 + 1)?;
     }
     let Nesting { frames: _, parts } = nesting;
     Ok(parts)

@@ -23,5 +23,5 @@ pub returns-in_err-next-clause-tells : goal.returns-in_err-next-clause-tells
 returns-in_err-next-clause-tells c =
     let p = err_from_is_err_and c.from_residual.result c.from_residual.ensures.1 in
     rw (p.1, p.2) (λ own ms line.
-      directive_tells ms (own ++ c.pieces.invariant.0.kept) c.pieces.spaced c.pieces.counted c.pieces.walk c.in_err-next.field-0.0 (c.pieces.invariant.0.goes ms own line)
-      c.in_err-next.ensures.tells)
+    directive_tells ms (own ++ c.pieces.invariant.0.kept) c.pieces.spaced c.pieces.counted c.pieces.walk c.in_err-next.field-0.0 (c.pieces.invariant.0.goes ms own line)
+    c.in_err-next.ensures.tells)

@@ -1,4 +1,4 @@
-use Rattle.std.proofs.Common.{[], ◌∷◌, ◌++◌, take, length, refl, ap, subst, ◌∙◌, arith}
+use Rattle.std.proofs.Common.{[], ◌∷◌, take, length, refl, ap, subst, ◌∙◌, arith}
 use Rattle.std.proofs.lemmas.Result.{err_from_is_err_and}
 use Rattle.cb_lines.specs.Marks.{bytes_of}
 use Rattle.cb_tokens.specs.declared.token.PieceKind.TheVariants as kinds
@@ -16,8 +16,7 @@ returns-clause-reads c = λ ms line.
     let g = c.in_ok-read_behind.ensures.goes in
     let on =
     rw (c.in_ok-pass_counted.ensures.passed, c.in_ok-pass_counted.ensures.counted) at g.goes ms
-    (hash_token c.args.hash ∷ record { kind = c.args.name.token.kind; text = text; spaced = c.args.name.spaced } ∷ []) in
-    (
+    (hash_token c.args.hash ∷ record { kind = c.args.name.token.kind; text = text; spaced = c.args.name.spaced } ∷ []) in (
       tokens_with c.args.kind c.args.hash c.args.name.spaced g.kept,
       record {
         kept = g.kept;
@@ -40,8 +39,8 @@ returns-in_err-read_behind-clause-tells c =
     rw (c.in_ok-pass_counted.ensures.passed, c.in_ok-pass_counted.ensures.counted) at c.in_err-read_behind.ensures.tells
     (hash_token c.args.hash ∷ record { kind = c.args.name.token.kind; text = text; spaced = c.args.name.spaced } ∷ []) in
     rw (p.1, p.2) (λ ms line.
-      tells ms
-      (directive_token ms (hash_token c.args.hash ∷ []) c.args.name.spaced c.args.counted c.args.walk.now c.args.name.token.kind c.args.name.token.len text c.requires.stands refl line))
+    tells ms
+    (directive_token ms (hash_token c.args.hash ∷ []) c.args.name.spaced c.args.counted c.args.walk.now c.args.name.token.kind c.args.name.token.len text c.requires.stands refl line))
 
 pub returns-clause-few : goal.returns-clause-few
 returns-clause-few c =

@@ -24,8 +24,7 @@ returns-clause-reads c = λ ms line.
     let part_is = own_part c.read_behind.new.tokens.items c.args.tokens.now.items kept c.len-to.result c.len-from.result added from_is to_is in
     let kind_is : c.kind_behind_hash-kind.result ≡ kind_behind_hash kept = rw (c.part.ensures, c.as_slice.ensures.value, part_is) at c.kind_behind_hash-kind.ensures in
     let unnamed : IsUnnamed c.kind_behind_hash-kind.result = subst IsUnnamed (sym kind_is) (c.requires.unnamed c.args.second.spaced g.kept) in
-    let on = rw (c.in_ok-pass_counted.ensures.passed, c.in_ok-pass_counted.ensures.counted) at g.goes ms (hash_token c.args.hash ∷ second ∷ []) in
-    (
+    let on = rw (c.in_ok-pass_counted.ensures.passed, c.in_ok-pass_counted.ensures.counted) at g.goes ms (hash_token c.args.hash ∷ second ∷ []) in (
       hash_token c.args.hash ∷ kept,
       record { kept = kept; added = added; from_is = from_is; to_is = to_is; own_is = other_node c.kind_behind_hash-kind.result c.args.hash false kept unnamed },
       rw kind_is
@@ -42,9 +41,9 @@ returns-in_err-read_behind-clause-tells c =
     rw (c.in_ok-pass_counted.ensures.passed, c.in_ok-pass_counted.ensures.counted) at c.in_err-read_behind.ensures.tells
     (hash_token c.args.hash ∷ record { kind = c.args.second.token.kind; text = text; spaced = c.args.second.spaced } ∷ []) in
     rw (p.1, p.2) (λ ms line.
-      tells ms
-      (directive_token ms (hash_token c.args.hash ∷ []) c.args.second.spaced c.args.counted c.args.walk.now c.args.second.token.kind c.args.second.token.len text c.requires.stands refl
-      line))
+    tells ms
+    (directive_token ms (hash_token c.args.hash ∷ []) c.args.second.spaced c.args.counted c.args.walk.now c.args.second.token.kind c.args.second.token.len text c.requires.stands refl
+    line))
 
 pub returns-clause-few : goal.returns-clause-few
 returns-clause-few c =

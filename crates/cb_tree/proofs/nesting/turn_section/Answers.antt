@@ -7,6 +7,6 @@ pub returns : goal.returns
 returns c = record {
   places = turned c.args.nesting.now.frames.items c.pop.new.self.items c.push.new.self.items c.in-Some.frame.before c.args.nesting.now.parts c.in-Some.frame.groups
       c.push_group.new.groups c.in-Some.frame.head c.args.node c.replace-parts.new.dest c.in-Some.ensures.items
-      (rw c.replace-parts.ensures.value at c.in_ok-push_group.ensures) c.in_ok-push.ensures.items (c.replace-parts.ensures.after ∙ c.new.ensures);
+      (rw c.replace-parts.ensures.value at c.in_ok-push_group.ensures) c.in_ok-push.ensures.items (c.replace-parts.ensures.after ∙ c.in_ok-with_room.ensures);
   depth = omega (arith, ap length c.in_ok-push.ensures.items, ap length c.in-Some.ensures.items, length-append {A = Frame});
 }

@@ -12,7 +12,7 @@ pub returns-in_err-piece-clause-tells : goal.returns-in_err-piece-clause-tells
 returns-in_err-piece-clause-tells c =
     let p = err_from_is_err_and c.from_residual.result c.from_residual.ensures.1 in
     rw (p.1, p.2) (λ ms own counted line.
-      directive_tells ms own c.pieces.spaced counted c.pieces.walk c.in_err-piece.field-0.0 (c.pieces.invariant.0 ms own counted line) c.in_err-piece.ensures)
+    directive_tells ms own c.pieces.spaced counted c.pieces.walk c.in_err-piece.field-0.0 (c.pieces.invariant.0 ms own counted line) c.in_err-piece.ensures)
 
 pub returns-in_default-clause-goes : goal.returns-in_default-clause-goes
 returns-in_default-clause-goes c = λ ms own counted line.

@@ -12,8 +12,7 @@ returns-in_err-head-clause-tells c =
 
 pub returns-then-is_hash_text-clause-reads : goal.returns-then-is_hash_text-clause-reads
 returns-then-is_hash_text-clause-reads c =
-    let (own, adds, reads) = c.in_ok-head.ensures.reads in
-    (
+    let (own, adds, reads) = c.in_ok-head.ensures.reads in (
       (own, adds, reads_on c.args.walk.now [] c.skip_white.new.walk _ c.read_directive.new.walk c.in_ok-token.ensures.reads reads),
       omega (arith, reads_shorter c.args.walk.now [] c.skip_white.new.walk c.in_ok-token.ensures.reads, c.in_ok-head.ensures.shorter),
       omega (arith, reads_shorter c.args.walk.now [] c.skip_white.new.walk c.in_ok-token.ensures.reads, c.in_ok-head.ensures.few),
