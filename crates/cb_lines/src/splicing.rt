@@ -7,6 +7,7 @@ use crate::mark::Marks;
 use cb_paths::NoMemory;
 use memchr::memchr2;
 use std::alloc::Global;
+use std::borrow::CowSlice;
 
 /// The byte that ends a line.
 pub(crate) const LINE_FEED: u8 = b'\n';
@@ -116,9 +117,22 @@ fn behind_line_end(source: &[u8], at: usize) -> usize
     }
 }
 
-/// The marks of a source: its bytes without splices and without the CR of each line end, with their lines. Its one error is want
-/// of memory.
-pub fn marks(alloc: Global, source: &[u8]) -> Result<Marks, NoMemory>
+/// The marks of a source: its bytes without splices and without the CR of each line end, with their lines. A source without
+/// either is lent and not copied. Its one error is want of memory.
+pub fn marks(alloc: Global, source: &[u8]) -> Result<Marks<'_>, NoMemory>
+    ensures { IfOk result (λ m. m ≡ marks_of source.now) }
+{
+    if cut_from(source, 0) == source.len() {
+        return Ok(Marks {
+            bytes: CowSlice::Borrowed(source),
+            splices: Vec::new(alloc),
+        });
+    }
+    copied_marks(alloc, source)
+}
+
+/// The marks of a source, copied run by run.
+fn copied_marks(alloc: Global, source: &[u8]) -> Result<Marks<'_>, NoMemory>
     ensures { IfOk result (λ m. m ≡ marks_of source.now) }
 {
     let mut bytes = Vec::with_capacity(alloc, source.len())?;
@@ -128,7 +142,10 @@ pub fn marks(alloc: Global, source: &[u8]) -> Result<Marks, NoMemory>
         let end = cut_from(source, at);
         bytes.extend_from_slice(&source[at..end])?;
         if end == source.len() {
-            return Ok(Marks { bytes, splices });
+            return Ok(Marks {
+                bytes: CowSlice::Owned(bytes),
+                splices,
+            });
         }
         if is_return_of_line_end(source, end) {
             at = end + 1;
@@ -137,5 +154,8 @@ pub fn marks(alloc: Global, source: &[u8]) -> Result<Marks, NoMemory>
         splices.push(bytes.len())?;
         at = behind_line_end(source, end + 1);
     }
-    Ok(Marks { bytes, splices })
+    Ok(Marks {
+        bytes: CowSlice::Owned(bytes),
+        splices,
+    })
 }

@@ -37,7 +37,7 @@ impl<'a> Model for Walk<'a> {
 
 impl<'a> Walk<'a> {
     /// A walk from the first mark on.
-    pub fn new(marks: &'a Marks) -> Walk<'a>
+    pub fn new(marks: &'a Marks<'a>) -> Walk<'a>
         ensures { result ≡ marks.now }
     {
         let (splices, line) = past_splices(marks.splices.as_slice(), 0, 1);

@@ -1,6 +1,6 @@
 use Rattle.std.proofs.Common.{◌-◌, ◌≤◌, length}
 use Rattle.cb_lines.proofs.Kept.{Kept}
-use Rattle.cb_lines.proofs.splicing.marks.Given as goal
+use Rattle.cb_lines.proofs.splicing.copied_marks.Given as goal
 
 abbrev pub invariant-runs : goal.invariant-runs
 invariant-runs l = record {
