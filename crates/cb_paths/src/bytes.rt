@@ -1,16 +1,28 @@
 //! A text of bytes, which need not be UTF-8.
-ghost use Rattle.std.specs.Prelude.{◌≡◌, ◌==◌, [], ◌∷◌, ◌++◌, length, IfOk, OnOk};
+ghost use Rattle.std.specs.Prelude.{◌≡◌, ◌==◌, ◌≤◌, [], length, IfOk};
+ghost use Rattle.cb_paths.specs.Texts.{text_of, IsText};
 
 use crate::memory::NoMemory;
-use smallvec::SmallVec;
 use std::alloc::Global;
 use std::marker::Model;
 
-/// A vector of bytes, which contracts see as the list of them. Texts of up to 16 bytes lie in the value
-/// itself and take no memory of their own.
+/// The bytes that lie in a value itself.
+const SHORT: usize = 14;
+
+/// How a text is kept.
+#[derive(Drop)]
+pub(crate) enum Text {
+    /// In the value itself: the number of the bytes, and the bytes at the front.
+    Short(u8, [u8; SHORT]),
+    /// Apart from it.
+    Long(Box<Vec<u8>>),
+}
+
+/// A vector of bytes, which contracts see as the list of them. It takes 16 bytes: texts of up to 14 bytes lie in the value itself
+/// and take no memory of their own.
 #[derive(Drop)]
 pub struct Bytes {
-    items: SmallVec<u8, 16>,
+    text: Text,
 }
 
 impl Model for Bytes {
@@ -18,33 +30,46 @@ impl Model for Bytes {
 
     ghost Value = { List ℕ };
 
-    ghost view = { λ b. b.items.items };
+    ghost use Rattle.cb_paths.specs.Texts.{text_of, IsText};
+
+    ghost view = { λ b. text_of b.text };
+
+    ghost invariant = { λ b. IsText b.text };
+}
+
+/// A text of few bytes.
+fn short(bytes: &[u8]) -> Text
+    requires { length bytes.now ≤ SHORT }
+    ensures text { text_of result ≡ bytes.now }
+    ensures kept { IsText result }
+{
+    let mut held = [0; SHORT];
+    for i in 0..bytes.len() {
+        held[i] = bytes[i];
+    }
+    Text::Short(bytes.len() as u8, held)
 }
 
 impl Bytes {
     /// The empty text.
-    pub fn new(alloc: Global) -> Bytes
+    pub fn new() -> Bytes
         ensures { result ≡ [] }
     {
-        Bytes {
-            items: SmallVec::new(alloc),
-        }
+        Bytes { text: short(&[]) }
     }
 
     /// A copy of these bytes.
     pub fn from_slice(alloc: Global, bytes: &[u8]) -> Result<Bytes, NoMemory>
         ensures { IfOk result (λ b. b ≡ bytes.now) }
     {
-        let items = SmallVec::from_slice(alloc, bytes)?;
-        Ok(Bytes { items })
-    }
-
-    /// Adds one byte at the end.
-    pub fn push(&mut self, byte: u8) -> Result<(), NoMemory>
-        ensures ok { OnOk result (self.new ≡ self.old ++ byte ∷ []) }
-    {
-        self.items.push(byte)?;
-        Ok(())
+        if bytes.len() <= SHORT {
+            return Ok(Bytes { text: short(bytes) });
+        }
+        let long = Vec::from_slice(alloc, bytes)?;
+        let long = Box::new(alloc, long)?;
+        Ok(Bytes {
+            text: Text::Long(long),
+        })
     }
 
     /// A second text of the same bytes.
@@ -58,21 +83,24 @@ impl Bytes {
     pub fn as_slice(&self) -> &[u8]
         ensures { result.now ≡ self.now }
     {
-        self.items.as_slice()
+        match &self.text {
+            Text::Short(len, bytes) => &bytes[..*len as usize],
+            Text::Long(bytes) => bytes.as_slice(),
+        }
     }
 
     /// The number of bytes.
     pub fn len(&self) -> usize
         ensures { result ≡ length self.now }
     {
-        self.items.len()
+        self.as_slice().len()
     }
 
     /// Whether there is no byte.
     pub fn is_empty(&self) -> bool
         ensures { result ≡ (length self.now == 0) }
     {
-        self.items.is_empty()
+        self.as_slice().is_empty()
     }
 }
 
@@ -86,12 +114,20 @@ mod tests {
     #[test]
     fn bytes_are_kept(rt: HostRuntime) -> Result<(), Fail> {
         is_shared::<Bytes>();
-        let mut text = Bytes::from_slice(rt.alloc(), b"a text of seventeen")?;
-        text.push(b'!')?;
-        let copy = text.copy(rt.alloc())?;
-        assert_eq!(rt; copy.as_slice(), b"a text of seventeen!".as_slice());
-        assert_eq!(rt; copy.len(), 20);
-        assert!(rt; Bytes::new(rt.alloc()).is_empty());
+        for text in [
+            b"".as_slice(),
+            b"a".as_slice(),
+            b"fourteen bytes".as_slice(),
+            b"fifteen bytes, ".as_slice(),
+            b"a text of some more than fourteen bytes".as_slice(),
+        ] {
+            let bytes = Bytes::from_slice(rt.alloc(), text)?;
+            let copy = bytes.copy(rt.alloc())?;
+            assert_eq!(rt; copy.as_slice(), text);
+            assert_eq!(rt; copy.len(), text.len());
+            assert_eq!(rt; bytes.is_empty(), text.is_empty());
+        }
+        assert!(rt; Bytes::new().is_empty());
         let text = format!(in rt.alloc(); "{}", NoMemory)?;
         assert_eq!(rt; text.as_str(), "out of memory");
         Ok(())
