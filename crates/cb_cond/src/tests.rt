@@ -1,5 +1,5 @@
 //! Conditions with the answers that the C standard's rules give.
-use crate::{BadCondition, value, value_of_parts};
+use crate::{BadCondition, one_condition, value, value_of_parts};
 use cb_paths::{Bytes, Language, NoMemory};
 use cb_tokens::{Token, TokenKind};
 use std::alloc::Global;
@@ -475,6 +475,7 @@ fn faults_are_told(rt: HostRuntime) -> Result<(), Fail> {
 
 #[test]
 fn parts_are_read_one_after_another(rt: HostRuntime) -> Result<(), Fail> {
+    one_condition();
     assert!(rt; value_of_parts(&[], Language::C) == Err(BadCondition::Malformed));
     for (text, expected) in IN_PARTS {
         let found = answer_in_parts(rt.alloc(), text)?;

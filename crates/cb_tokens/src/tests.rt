@@ -101,6 +101,11 @@ fn comments_without_an_end_are_refused(rt: HostRuntime) -> Result<(), Fail> {
             Err(fault) => assert_eq!(rt; fault, LexFault::OpenComment(line)),
         }
     }
+    let text = format!(in rt.alloc(); "{}", LexFault::OpenComment(7))?;
+    assert_eq!(rt;
+        text.as_str(),
+        "the comment that begins on line 7 has no end"
+    );
     Ok(())
 }
 
