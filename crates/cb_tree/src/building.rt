@@ -226,20 +226,6 @@ mod tests {
             let other = build(rt.alloc(), b)?;
             assert_eq!(rt; tree.same_skeleton(&other), agree, "{a:?} {b:?}");
         }
-        for (source, rest) in [
-            (b"%: undef A".as_slice(), 1),
-            (b"#".as_slice(), 0),
-            (b"# 1 2".as_slice(), 2),
-            (b"#line 2".as_slice(), 1),
-            (b"#pragma once".as_slice(), 1),
-            (b"x y".as_slice(), 0),
-        ] {
-            assert_eq!(rt;
-                build(rt.alloc(), source)?.rest(1).len(),
-                rest,
-                "{source:?}"
-            );
-        }
         Ok(())
     }
 

@@ -1,4 +1,4 @@
-//! The nodes of a source, with the tokens of all directives in one list.
+//! The nodes of a source. The tokens that are kept of their directives lie in one list.
 ghost use Rattle.std.specs.Prelude.{◌≡◌, ◌-◌, ◌<◌, ◌≤◌, ◌↔◌, length, take, drop, slice_get, Some, IsTrue};
 ghost use Rattle.std.specs.Option.{option_map};
 ghost use Rattle.cb_tree.specs.Heads.{hash_token, lead_name, node_of, bone_with};
@@ -34,7 +34,7 @@ pub(crate) struct Head {
 #[derive(Drop)]
 pub(crate) struct Nodes {
     pub(crate) heads: Vec<Head>,
-    /// All tokens of the directives, one behind another.
+    /// The tokens that are kept of the directives, one behind another.
     pub(crate) tokens: Vec<Token>,
 }
 
