@@ -7,5 +7,6 @@ pub mod Kept
 pub mod Members
 pub mod Merged
 pub mod Positions
+pub mod Singles
 pub mod SpanLists
 pub mod Written

@@ -2,3 +2,4 @@ pub mod Held
 pub mod Marks
 pub mod Lines
 pub mod Merging
+pub mod Runs

@@ -6,6 +6,7 @@ mod line_set;
 mod mark;
 mod merging;
 mod reading;
+mod runs;
 mod spans;
 mod splicing;
 mod walking;

@@ -5,9 +5,9 @@ ghost use Rattle.std.specs.List.{flat_map};
 ghost use Rattle.std.specs.List.Sorted.{IsStrictlyIncreasing};
 
 use crate::merging::merged;
+use crate::runs::Runs;
 use crate::spans::{add_line, begins_by, count_before, count_lines};
 use cb_paths::NoMemory;
-use smallvec::SmallVec;
 use std::alloc::Global;
 use std::marker::Model;
 
@@ -20,11 +20,11 @@ pub struct Span {
     pub last: u32,
 }
 
-/// A set of line numbers, which contracts see as their rising list. Up to two runs of them lie in the value itself and
-/// take no memory of their own.
+/// A set of line numbers, which contracts see as their rising list. It takes 16 bytes, and one run of lines takes
+/// no memory of its own.
 #[derive(Drop)]
 pub struct Lines {
-    spans: SmallVec<Span, 2>,
+    spans: Runs,
 }
 
 impl Model for Lines {
@@ -35,9 +35,9 @@ impl Model for Lines {
 
     ghost use Rattle.cb_lines.specs.Lines.{span_lines, AreMaximal};
 
-    ghost view = { λ l. flat_map span_lines l.spans.items };
+    ghost view = { λ l. flat_map span_lines l.spans };
 
-    ghost invariant = { λ l. AreMaximal l.spans.items };
+    ghost invariant = { λ l. AreMaximal l.spans };
 }
 
 impl Lines {
@@ -46,7 +46,7 @@ impl Lines {
         ensures { result ≡ [] }
     {
         Lines {
-            spans: SmallVec::new(alloc),
+            spans: Runs::new(alloc),
         }
     }
 
@@ -78,7 +78,7 @@ impl Lines {
     pub fn copy(&self, alloc: Global) -> Result<Lines, NoMemory>
         ensures { IfOk result (λ copy. copy ≡ self.now) }
     {
-        let spans = SmallVec::from_slice(alloc, self.spans.as_slice())?;
+        let spans = Runs::from_slice(alloc, self.spans.as_slice())?;
         Ok(Lines { spans })
     }
 

@@ -6,8 +6,8 @@ ghost use Rattle.cb_lines.specs.Merging.{BeginsFrom, TakesFirst, last_first};
 ghost use Rattle.std.specs.List.{flat_map};
 
 use crate::line_set::Span;
+use crate::runs::Runs;
 use cb_paths::NoMemory;
-use smallvec::SmallVec;
 use std::alloc::Global;
 
 /// What is left of two rising lists of spans.
@@ -51,17 +51,20 @@ fn meets(last: Span, next: Span) -> bool
 }
 
 /// Adds a span that begins no earlier than the last one does, and joins the two where they meet.
-fn join(spans: &mut SmallVec<Span, 2>, next: Span) -> Result<(), NoMemory>
-    requires maximal { AreMaximal spans.old.items }
-    requires rising { last_first spans.old.items ≤ next.first }
+fn join(spans: &mut Runs, next: Span) -> Result<(), NoMemory>
+    requires maximal { AreMaximal spans.old }
+    requires rising { last_first spans.old ≤ next.first }
     requires full { next.first ≤ next.last }
-    ensures maximal { AreMaximal spans.new.items }
-    ensures rising { OnOk result (last_first spans.new.items ≤ next.first) }
-    ensures members { OnOk result ((line : ℕ) → has_line (flat_map span_lines spans.new.items) line ≡ (has_line (flat_map span_lines spans.old.items) line || has_line (span_lines next) line)) }
+    ensures maximal { AreMaximal spans.new }
+    ensures rising { OnOk result (last_first spans.new ≤ next.first) }
+    ensures members { OnOk result ((line : ℕ) → has_line (flat_map span_lines spans.new) line ≡ (has_line (flat_map span_lines spans.old) line || has_line (span_lines next) line)) }
 {
-    let count = spans.len();
-    if count > 0 && meets(spans[count - 1], next) {
-        spans[count - 1].last = spans[count - 1].last.max(next.last);
+    let held = spans.as_slice();
+    let count = held.len();
+    if count > 0 && meets(held[count - 1], next) {
+        let Span { first, last } = held[count - 1];
+        let last = last.max(next.last);
+        spans.set(count - 1, Span { first, last });
         return Ok(());
     }
     spans.push(next)?;
@@ -69,17 +72,13 @@ fn join(spans: &mut SmallVec<Span, 2>, next: Span) -> Result<(), NoMemory>
 }
 
 /// The maximal spans of the lines that two lists of them hold.
-pub(crate) fn merged(
-    alloc: Global,
-    left: &[Span],
-    right: &[Span],
-) -> Result<SmallVec<Span, 2>, NoMemory>
+pub(crate) fn merged(alloc: Global, left: &[Span], right: &[Span]) -> Result<Runs, NoMemory>
     requires left { AreMaximal left.now }
     requires right { AreMaximal right.now }
-    ensures maximal { IfOk result (λ spans. AreMaximal spans.items) }
-    ensures numbers { IfOk result (λ spans. flat_map span_lines spans.items ≡ union_of (flat_map span_lines left.now) (flat_map span_lines right.now)) }
+    ensures maximal { IfOk result (λ spans. AreMaximal spans) }
+    ensures numbers { IfOk result (λ spans. flat_map span_lines spans ≡ union_of (flat_map span_lines left.now) (flat_map span_lines right.now)) }
 {
-    let mut spans = SmallVec::new(alloc);
+    let mut spans = Runs::new(alloc);
     let mut pair = Pair { left, right };
     'spans: while let Some(span) = pair.next() {
         join(&mut spans, span)?;

@@ -5,8 +5,8 @@ ghost use Rattle.cb_lines.specs.Lines.{with_line, span_lines, AreMaximal};
 ghost use Rattle.std.specs.List.{flat_map};
 
 use crate::line_set::Span;
+use crate::runs::Runs;
 use cb_paths::NoMemory;
-use smallvec::SmallVec;
 
 /// How many of rising spans end before a line.
 pub(crate) fn count_before(spans: &[Span], line: u32) -> usize
@@ -49,7 +49,7 @@ fn ends_directly_before(spans: &[Span], at: usize, line: u32) -> bool
 
 /// Takes a line into the last of the spans, where that span holds it or ends directly before it, and tells whether it did.
 #[inline]
-fn lengthen(spans: &mut [Span], line: u32) -> bool
+fn lengthen(spans: &mut Runs, line: u32) -> bool
     requires { AreMaximal spans.old }
     ensures reaches { IsTrue result ↔ ((0 < length spans.old)
         × ((slice_index_or spans.old (length spans.old - 1) (record { first = 0; last = 0 })).first ≤ line)
@@ -58,18 +58,19 @@ fn lengthen(spans: &mut [Span], line: u32) -> bool
     ensures numbers { IsTrue result → flat_map span_lines spans.new ≡ with_line line (flat_map span_lines spans.old) }
     ensures kept { result ≡ false → spans.new ≡ spans.old }
 {
-    let count = spans.len();
+    let held = spans.as_slice();
+    let count = held.len();
     if count == 0 {
         return false;
     }
-    let Span { first, last } = spans[count - 1];
+    let Span { first, last } = held[count - 1];
     if line <= last {
         return first <= line;
     }
     if line - last > 1 {
         return false;
     }
-    spans[count - 1].last = line;
+    spans.set(count - 1, Span { first, last: line });
     true
 }
 
@@ -84,19 +85,20 @@ fn is_behind(spans: &[Span], line: u32) -> bool
 
 /// Adds a line to maximal spans. A line that the last of them reaches, or that is behind them all, takes no search.
 #[inline]
-pub(crate) fn add_line(spans: &mut SmallVec<Span, 2>, line: u32) -> Result<(), NoMemory>
-    requires { AreMaximal spans.old.items }
-    ensures maximal { AreMaximal spans.new.items }
-    ensures numbers { OnOk result (flat_map span_lines spans.new.items ≡ with_line line (flat_map span_lines spans.old.items)) }
+pub(crate) fn add_line(spans: &mut Runs, line: u32) -> Result<(), NoMemory>
+    requires { AreMaximal spans.old }
+    ensures maximal { AreMaximal spans.new }
+    ensures numbers { OnOk result (flat_map span_lines spans.new ≡ with_line line (flat_map span_lines spans.old)) }
 {
-    if lengthen(spans.as_mut_slice(), line) {
+    if lengthen(spans, line) {
         return Ok(());
     }
+    let alone = Span {
+        first: line,
+        last: line,
+    };
     if is_behind(spans.as_slice(), line) {
-        spans.push(Span {
-            first: line,
-            last: line,
-        })?;
+        spans.push(alone)?;
         return Ok(());
     }
     insert_line(spans, line)
@@ -104,10 +106,10 @@ pub(crate) fn add_line(spans: &mut SmallVec<Span, 2>, line: u32) -> Result<(), N
 
 /// Adds a line to maximal spans, at the place that a search finds. It stays out of the way of the calls that need none.
 #[inline(never)]
-fn insert_line(spans: &mut SmallVec<Span, 2>, line: u32) -> Result<(), NoMemory>
-    requires { AreMaximal spans.old.items }
-    ensures maximal { AreMaximal spans.new.items }
-    ensures numbers { OnOk result (flat_map span_lines spans.new.items ≡ with_line line (flat_map span_lines spans.old.items)) }
+fn insert_line(spans: &mut Runs, line: u32) -> Result<(), NoMemory>
+    requires { AreMaximal spans.old }
+    ensures maximal { AreMaximal spans.new }
+    ensures numbers { OnOk result (flat_map span_lines spans.new ≡ with_line line (flat_map span_lines spans.old)) }
 {
     let held = spans.as_slice();
     let at = count_before(held, line);
@@ -118,26 +120,30 @@ fn insert_line(spans: &mut SmallVec<Span, 2>, line: u32) -> Result<(), NoMemory>
     let joins_back = begins_directly_behind(held, at, line);
     match (joins_front, joins_back) {
         (true, true) => {
-            spans[at - 1].last = spans[at].last;
-            let _ = spans.remove(at);
+            let joined = Span {
+                first: held[at - 1].first,
+                last: held[at].last,
+            };
+            spans.set(at - 1, joined);
+            spans.remove(at);
             Ok(())
         }
         (true, false) => {
-            spans[at - 1].last = line;
+            let first = held[at - 1].first;
+            spans.set(at - 1, Span { first, last: line });
             Ok(())
         }
         (false, true) => {
-            spans[at].first = line;
+            let last = held[at].last;
+            spans.set(at, Span { first: line, last });
             Ok(())
         }
         (false, false) => {
-            spans.insert(
-                at,
-                Span {
-                    first: line,
-                    last: line,
-                },
-            )?;
+            let alone = Span {
+                first: line,
+                last: line,
+            };
+            spans.insert(at, alone)?;
             Ok(())
         }
     }

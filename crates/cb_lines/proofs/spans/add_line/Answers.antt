@@ -1,17 +1,14 @@
-use Rattle.std.proofs.Common.{◌≡◌, ◌≤◌, List, [], ◌∷◌, ◌++◌, length, refl, ap, ◌∙◌, subst}
-use Rattle.std.specs.List.{refill}
+use Rattle.std.proofs.Common.{◌≡◌, ◌≤◌, List, [], ◌∷◌, ◌++◌, ap, ◌∙◌, subst}
 use Rattle.cb_lines.specs.declared.line_set.Span.{Span}
 use Rattle.cb_lines.proofs.SpanLists.{lines, bound}
 use Rattle.cb_lines.proofs.AtEnd.{one, added_behind, bound_behind}
-use Rattle.cb_lines.proofs.Written.{refilled}
 use Rattle.cb_lines.proofs.spans.add_line.Goals as goal
 
 pub returns-then-is_behind-clause-numbers : goal.returns-then-is_behind-clause-numbers
 returns-then-is_behind-clause-numbers c =
-    let ss : List Span = c.args.spans.now.items in
-    let left : c.lengthen.new.spans ≡ ss = c.lengthen.ensures.kept c.if-lengthen.false ∙ c.as_mut_slice.ensures.value in
-    let back : refill (length ss) ss c.lengthen.new.spans ≡ ss = ap (refill (length ss) ss) left ∙ refilled ss ss refl in
+    let ss : List Span = c.args.spans.now in
+    let left : c.lengthen.new.spans ≡ ss = c.lengthen.ensures.kept c.if-lengthen.false in
     let low : bound 0 ss ≤ c.args.line =
-    subst (λ (xs : List Span). bound 0 xs ≤ c.args.line) (c.as_slice.ensures ∙ back) (bound_behind c.args.line c.as_slice.result.now (c.is_behind.ensures.0 c.if-is_behind.true)) in
-    ap lines (c.in_ok-push.ensures.ok ∙ ap (λ (xs : List Span). xs ++ one c.args.line ∷ []) back)
+    subst (λ (xs : List Span). bound 0 xs ≤ c.args.line) (c.as_slice.ensures ∙ left) (bound_behind c.args.line c.as_slice.result.now (c.is_behind.ensures.0 c.if-is_behind.true)) in
+    ap lines (c.in_ok-push.ensures.ok ∙ ap (λ (xs : List Span). xs ++ one c.args.line ∷ []) left)
     ∙ (added_behind c.args.line ss c.requires low).numbers

@@ -1,13 +1,14 @@
-use Rattle.std.proofs.Common.{◌≡◌, ℕ, ◌+◌, ◌-◌, ◌<◌, ◌≤◌, true, false, IsTrue, ◌↔◌, List, length, get_or, refl, sym, subst, arith}
-use Rattle.std.specs.List.{flat_map, remove}
+use Rattle.std.proofs.Common.{◌≡◌, ℕ, ◌+◌, ◌-◌, ◌<◌, ◌≤◌, false, IsTrue, ◌↔◌, List, length, get_or, set, refl, sym, ap, ◌∙◌, subst, arith}
+use Rattle.std.specs.List.{insert, remove}
 use Rattle.std.proofs.lemmas.Bool.{false≢true}
 use Rattle.cb_lines.specs.declared.line_set.Span.{Span}
-use Rattle.cb_lines.specs.Lines.{with_line, span_lines, AreMaximal}
-use Rattle.cb_lines.proofs.Adding.{Added, none, place_of, added_alone, added_front, added_back, added_joined, already}
-use Rattle.cb_lines.proofs.Written.{read_at, written}
+use Rattle.cb_lines.specs.Lines.{with_line, AreMaximal}
+use Rattle.cb_lines.proofs.SpanLists.{lines}
+use Rattle.cb_lines.proofs.Adding.{none, place_of, added_alone, added_front, added_back, added_joined, already}
+use Rattle.cb_lines.proofs.Written.{read_at, added_as}
 use Rattle.cb_lines.proofs.spans.insert_line.Goals as goal
 
--- the three tests, and what they say of the spans that the vector holds
+-- the three tests, and what they say of the spans
 abbrev Begins : ℕ → ℕ → List Span → Type 0
 Begins line p ss = (p < length ss) × ((get_or ss p none).first ≤ line)
 
@@ -17,11 +18,8 @@ Front line p ss = (0 < p) × (line ≡ (get_or ss (p - 1) none).last + 1)
 abbrev Back : ℕ → ℕ → List Span → Type 0
 Back line p ss = (p < length ss) × ((get_or ss p none).first ≡ line + 1)
 
-passes : (P : List Span → Type 0) (held ss : List Span) → held ≡ ss → (IsTrue true ↔ P held) → P ss
-passes P held ss e h = subst P e (h.0 refl)
-
-fails : (P : List Span → Type 0) (held ss : List Span) → held ≡ ss → (IsTrue false ↔ P held) → P ss → ⊥
-fails P held ss e h p = false≢true (h.1 (subst P (sym e) p))
+fails : (P : Type 0) → (IsTrue false ↔ P) → P → ⊥
+fails P h p = false≢true (h.1 p)
 
 pub returns-then-begins_by-clause-numbers : goal.returns-then-begins_by-clause-numbers
 returns-then-begins_by-clause-numbers c =
@@ -29,7 +27,7 @@ returns-then-begins_by-clause-numbers c =
     let held : List Span = c.as_slice-held.result.now in
     let p : ℕ = c.count_before-at.result in
     let is = c.if-begins_by.ensures.0 refl in
-    subst (λ (ss : List Span). flat_map span_lines ss ≡ with_line c.args.line (flat_map span_lines ss)) e
+    subst (λ (ss : List Span). lines ss ≡ with_line c.args.line (lines ss)) e
     (already c.args.line held p (subst AreMaximal (sym e) c.requires) is.0 is.1 (c.count_before-at.ensures.behind p none (omega arith) is.0))
 
 pub returns-in-true-true : goal.returns-in-true-true
@@ -37,16 +35,17 @@ returns-in-true-true c =
     let e = c.as_slice-held.ensures in
     let line : ℕ = c.args.line in
     let held : List Span = c.as_slice-held.result.now in
-    let ss : List Span = c.args.spans.now.items in
     let p : ℕ = c.count_before-at.result in
-    let place = place_of line held ss p c.requires e c.count_before-at.ensures.within c.count_before-at.ensures.before (λ h. false≢true (c.if-begins_by.ensures.1 h)) in
-    let front = passes (Front line p) held ss e c.in-true-true.ensures in
-    let back = passes (Back line p) held ss e c.in-true-true.ensures' in
-    let y : Span = get_or c.deref.result.now p none in
-    let yis : y ≡ get_or ss p y = read_at ss c.deref.result.now p c.deref.ensures back.0 in
-    let made = subst (λ (new : List Span). Added line ss new) (sym c.remove.ensures.items)
-    (written (λ (new : List Span). Added line ss (remove new p)) ss c.deref_mut.result.now (p - 1) (λ x. record { first = x.first; last = y.last }) c.deref_mut.ensures.value (omega arith)
-    (λ x xis. added_joined line ss p place front.0 front.1 back.0 back.1 x y xis yis)) in
+    let place = place_of line held held p (subst AreMaximal (sym e) c.requires) refl c.count_before-at.ensures.within c.count_before-at.ensures.before (fails (Begins line p held) c.if-begins_by.ensures) in
+    let front = c.in-true-true.ensures.0 refl in
+    let back = c.in-true-true.ensures'.0 refl in
+    let x : Span = get_or held (p - 1) none in
+    let y : Span = get_or held p none in
+    let run : Span = record { first = x.first; last = y.last } in
+    let made =
+    added_as line held c.args.spans.now (remove (set held (p - 1) run) p) c.remove.new.self e
+    (c.remove.ensures ∙ ap (λ (xs : List Span). remove xs p) (c.set.ensures ∙ ap (λ (xs : List Span). set xs (p - 1) run) (sym e)))
+    (added_joined line held p place front.0 front.1 back.0 back.1 x y (read_at held (p - 1) (omega arith)) (read_at held p back.0)) in
     record { maximal = made.maximal; numbers = made.numbers }
 
 pub returns-in-true-false : goal.returns-in-true-false
@@ -54,12 +53,15 @@ returns-in-true-false c =
     let e = c.as_slice-held.ensures in
     let line : ℕ = c.args.line in
     let held : List Span = c.as_slice-held.result.now in
-    let ss : List Span = c.args.spans.now.items in
     let p : ℕ = c.count_before-at.result in
-    let place = place_of line held ss p c.requires e c.count_before-at.ensures.within c.count_before-at.ensures.before (λ h. false≢true (c.if-begins_by.ensures.1 h)) in
-    let front = passes (Front line p) held ss e c.in-true-false.ensures in
-    let made = written (Added line ss) ss c.deref_mut-in-true-false.result.now (p - 1) (λ x. record { first = x.first; last = line }) c.deref_mut-in-true-false.ensures.value (omega arith)
-    (λ x is. added_back line ss p place front.0 front.1 (fails (Back line p) held ss e c.in-true-false.ensures') x is) in
+    let place = place_of line held held p (subst AreMaximal (sym e) c.requires) refl c.count_before-at.ensures.within c.count_before-at.ensures.before (fails (Begins line p held) c.if-begins_by.ensures) in
+    let front = c.in-true-false.ensures.0 refl in
+    let x : Span = get_or held (p - 1) none in
+    let run : Span = record { first = x.first; last = line } in
+    let made =
+    added_as line held c.args.spans.now (set held (p - 1) run) c.set-in-true-false.new.self e
+    (c.set-in-true-false.ensures ∙ ap (λ (xs : List Span). set xs (p - 1) run) (sym e))
+    (added_back line held p place front.0 front.1 (fails (Back line p held) c.in-true-false.ensures') x (read_at held (p - 1) (omega arith))) in
     record { maximal = made.maximal; numbers = made.numbers }
 
 pub returns-in-false-true : goal.returns-in-false-true
@@ -67,12 +69,15 @@ returns-in-false-true c =
     let e = c.as_slice-held.ensures in
     let line : ℕ = c.args.line in
     let held : List Span = c.as_slice-held.result.now in
-    let ss : List Span = c.args.spans.now.items in
     let p : ℕ = c.count_before-at.result in
-    let place = place_of line held ss p c.requires e c.count_before-at.ensures.within c.count_before-at.ensures.before (λ h. false≢true (c.if-begins_by.ensures.1 h)) in
-    let back = passes (Back line p) held ss e c.in-false-true.ensures' in
-    let made = written (Added line ss) ss c.deref_mut-in-false-true.result.now p (λ x. record { first = line; last = x.last }) c.deref_mut-in-false-true.ensures.value back.0
-    (λ x is. added_front line ss p place (fails (Front line p) held ss e c.in-false-true.ensures) back.0 back.1 x is) in
+    let place = place_of line held held p (subst AreMaximal (sym e) c.requires) refl c.count_before-at.ensures.within c.count_before-at.ensures.before (fails (Begins line p held) c.if-begins_by.ensures) in
+    let back = c.in-false-true.ensures'.0 refl in
+    let y : Span = get_or held p none in
+    let run : Span = record { first = line; last = y.last } in
+    let made =
+    added_as line held c.args.spans.now (set held p run) c.set-in-false-true.new.self e
+    (c.set-in-false-true.ensures ∙ ap (λ (xs : List Span). set xs p run) (sym e))
+    (added_front line held p place (fails (Front line p held) c.in-false-true.ensures) back.0 back.1 y (read_at held p back.0)) in
     record { maximal = made.maximal; numbers = made.numbers }
 
 pub returns-in_ok-insert-in-false-false : goal.returns-in_ok-insert-in-false-false
@@ -80,9 +85,11 @@ returns-in_ok-insert-in-false-false c =
     let e = c.as_slice-held.ensures in
     let line : ℕ = c.args.line in
     let held : List Span = c.as_slice-held.result.now in
-    let ss : List Span = c.args.spans.now.items in
     let p : ℕ = c.count_before-at.result in
-    let place = place_of line held ss p c.requires e c.count_before-at.ensures.within c.count_before-at.ensures.before (λ h. false≢true (c.if-begins_by.ensures.1 h)) in
-    let made = subst (λ (new : List Span). Added line ss new) (sym c.in_ok-insert-in-false-false.ensures.ok)
-    (added_alone line ss p place (fails (Front line p) held ss e c.in-false-false.ensures) (fails (Back line p) held ss e c.in-false-false.ensures')) in
+    let place = place_of line held held p (subst AreMaximal (sym e) c.requires) refl c.count_before-at.ensures.within c.count_before-at.ensures.before (fails (Begins line p held) c.if-begins_by.ensures) in
+    let run : Span = record { first = line; last = line } in
+    let made =
+    added_as line held c.args.spans.now (insert held p run) c.insert.new.self e
+    (c.in_ok-insert-in-false-false.ensures.ok ∙ ap (λ (xs : List Span). insert xs p run) (sym e))
+    (added_alone line held p place (fails (Front line p held) c.in-false-false.ensures) (fails (Back line p held) c.in-false-false.ensures')) in
     record { maximal = made.maximal; numbers = made.numbers }

@@ -7,4 +7,4 @@ use Rattle.cb_lines.proofs.line_set.Lines.spans.Goals as goal
 pub returns-clause-rising : goal.returns-clause-rising
 returns-clause-rising c =
     subst IsStrictlyIncreasing c.self.view_is
-    (increasing_from_rising 0 (lines c.self.inside.spans.items) (Rising-lines 0 c.self.inside.spans.items (Fits-from_maximal c.self.inside.spans.items c.self.invariant)))
+    (increasing_from_rising 0 (lines c.self.inside.spans) (Rising-lines 0 c.self.inside.spans (Fits-from_maximal c.self.inside.spans c.self.invariant)))
