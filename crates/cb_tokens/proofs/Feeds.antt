@@ -1,13 +1,14 @@
--- No piece but a comment has an LF before its last byte.
+-- No token and no white space has an LF.
 use Rattle.std.proofs.Common.{◌≡◌, ℕ, ◌+◌, ◌<◌, ◌≤◌, ◌==◌, Bool, true, false, not, cond, ◌&&◌, ◌||◌, List, [], ◌∷◌, length, get_or, take, drop, length-take-le, refl, ap, ◌∙◌, arith, ◌⊎◌, inl, inr, ⊎_elim}
 use Rattle.std.specs.List.{list_all}
+use Rattle.std.specs.Char.{is_ascii_digit}
 use Rattle.std.proofs.lemmas.Bool.{false≢true, and_parts, and_from, or_cases, or_parts, eqb-true, not-true}
 use Rattle.std.proofs.lemmas.Slice.Eq.{bytes_eq-Decides}
 use Rattle.cb_tokens.specs.declared.token.TokenKind.{TokenKind}
 use Rattle.cb_tokens.specs.declared.token.TokenKind.TheVariants.{Identifier, Number, Char, Str, Punct, Other}
 use Rattle.cb_tokens.specs.declared.token.PieceKind.TheVariants.{White, LineEnd, Token}
 use Rattle.cb_tokens.specs.declared.first.First.TheVariants as first
-use Rattle.cb_tokens.specs.Forms.{is_white, is_line_feed, is_white_run, is_quote, is_prefix_letter, is_quoted, closes, is_character, is_string, stays_unclosed, is_unclosed, is_stray, fits}
+use Rattle.cb_tokens.specs.Forms.{is_white, is_line_feed, is_white_run, is_name_start, is_quote, is_prefix_letter, is_punctuator, is_quoted, closes, is_character, is_string, stays_unclosed, is_unclosed, is_stray, fits}
 use Rattle.cb_tokens.specs.Cut.{StandsFirst}
 use Rattle.cb_tokens.proofs.Stretches.{taken_at, is_solid, identifier_solid, number_solid, punctuator_solid, prefix_solid, white_no_feed_byte}
 
@@ -126,19 +127,25 @@ unfolding is_white_run
 whites [] h = refl
 whites (b ∷ bs) h = h
 
-one_byte : (l : List ℕ) → is_stray l ≡ true → length l ≤ 1
-unfolding is_stray
-one_byte [] h = omega arith
-one_byte (b ∷ []) h = omega arith
-one_byte (b ∷ c ∷ cs) h = absurd (false≢true h)
+stray_goes_on : (w f n d q p : Bool) → not (w || f || n || d || q || p) ≡ true → f ≡ false
+stray_goes_on true f n d q p h = absurd (false≢true h)
+stray_goes_on false true n d q p h = absurd (false≢true h)
+stray_goes_on false false n d q p h = refl
 
-going : (bytes : List ℕ) (len k : ℕ) → len ≤ length bytes → list_all goes_on (take len bytes) ≡ true → k + 1 < len → (get_or bytes k 0 == 10) ≡ false
-going bytes len k within h lt = no_feed (get_or bytes k 0) (taken_at goes_on bytes len k within h (omega arith))
+stray : (l : List ℕ) → is_stray l ≡ true → list_all goes_on l ≡ true
+unfolding is_stray goes_on
+stray [] h = refl
+stray (b ∷ []) h =
+    and_from (goes_on b) true (ap not (stray_goes_on (is_white b) (is_line_feed b) (is_name_start b) (is_ascii_digit b) (is_quote b) (is_punctuator (b ∷ [])) h)) refl
+stray (b ∷ c ∷ cs) h = absurd (false≢true h)
 
-pub white_in_line : (bytes : List ℕ) (len k : ℕ) → StandsFirst bytes (first.Piece White len) → k + 1 < len → (get_or bytes k 0 == 10) ≡ false
+going : (bytes : List ℕ) (len k : ℕ) → len ≤ length bytes → list_all goes_on (take len bytes) ≡ true → k < len → (get_or bytes k 0 == 10) ≡ false
+going bytes len k within h lt = no_feed (get_or bytes k 0) (taken_at goes_on bytes len k within h lt)
+
+pub white_in_line : (bytes : List ℕ) (len k : ℕ) → StandsFirst bytes (first.Piece White len) → k < len → (get_or bytes k 0 == 10) ≡ false
 unfolding fits
 white_in_line bytes len k h lt =
-    white_no_feed_byte (get_or bytes k 0) (taken_at is_white bytes len k h.1.within (whites (take len bytes) h.1.holds) (omega arith))
+    white_no_feed_byte (get_or bytes k 0) (taken_at is_white bytes len k h.1.within (whites (take len bytes) h.1.holds) lt)
 
 pub line_end_in_line : (bytes : List ℕ) (len k : ℕ) → StandsFirst bytes (first.Piece LineEnd len) → k + 1 < len → (get_or bytes k 0 == 10) ≡ false
 unfolding fits
@@ -147,7 +154,7 @@ line_end_in_line bytes len k h lt =
     let one : length (take len bytes) ≡ 1 = ap length e in
     absurd (omega (arith, one, length-take-le len bytes h.1.within))
 
-pub token_in_line : (bytes : List ℕ) (kind : TokenKind) (len k : ℕ) → StandsFirst bytes (first.Piece (Token kind) len) → k + 1 < len → (get_or bytes k 0 == 10) ≡ false
+pub token_in_line : (bytes : List ℕ) (kind : TokenKind) (len k : ℕ) → StandsFirst bytes (first.Piece (Token kind) len) → k < len → (get_or bytes k 0 == 10) ≡ false
 unfolding fits
 token_in_line bytes Identifier len k h lt = going bytes len k h.1.within (solid_all (take len bytes) (identifier_solid (take len bytes) h.1.holds)) lt
 token_in_line bytes Number len k h lt = going bytes len k h.1.within (solid_all (take len bytes) (number_solid (take len bytes) h.1.holds)) lt
@@ -155,6 +162,5 @@ token_in_line bytes Char len k h lt = going bytes len k h.1.within (character (t
 token_in_line bytes Str len k h lt = going bytes len k h.1.within (string (take len bytes) h.1.holds) lt
 token_in_line bytes Punct len k h lt = going bytes len k h.1.within (solid_all (take len bytes) (punctuator_solid (take len bytes) h.1.holds)) lt
 token_in_line bytes Other len k h lt =
-    ⊎_elim (λ e. going bytes len k h.1.within (unclosed (take len bytes) e) lt)
-    (λ e. absurd (omega (arith, one_byte (take len bytes) e, length-take-le len bytes h.1.within)))
+    ⊎_elim (λ e. going bytes len k h.1.within (unclosed (take len bytes) e) lt) (λ e. going bytes len k h.1.within (stray (take len bytes) e) lt)
     (or_cases (is_unclosed (take len bytes)) (is_stray (take len bytes)) h.1.holds)

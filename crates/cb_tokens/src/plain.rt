@@ -22,14 +22,14 @@ pub struct Stretch {
     pub seen: usize,
 }
 
-/// No byte but the last of white space, of a line end and of a token is an LF.
+/// No byte of white space and of a token is an LF, and none but the last of a line end.
 pub fn pieces_end_with_lines()
-    ensures white { (bytes : List ℕ) (len k : ℕ) → StandsFirst bytes (First.Piece PieceKind.White len) → k + 1 < len
+    ensures white { (bytes : List ℕ) (len k : ℕ) → StandsFirst bytes (First.Piece PieceKind.White len) → k < len
         → is_line_feed (slice_index bytes k) ≡ false }
     ensures line_end { (bytes : List ℕ) (len k : ℕ) → StandsFirst bytes (First.Piece PieceKind.LineEnd len) → k + 1 < len
         → is_line_feed (slice_index bytes k) ≡ false }
     ensures token { (bytes : List ℕ) (kind : TokenKind) (len k : ℕ) → StandsFirst bytes (First.Piece (PieceKind.Token kind) len)
-        → k + 1 < len → is_line_feed (slice_index bytes k) ≡ false }
+        → k < len → is_line_feed (slice_index bytes k) ≡ false }
 {}
 
 /// The number of white bytes at the front, which are a piece where there are any.

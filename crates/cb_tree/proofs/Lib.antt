@@ -9,6 +9,7 @@ pub mod ReadsMore
 pub mod Hash
 pub mod Runs
 pub mod Directives
+pub mod Rows
 pub mod Heads
 pub mod NodeSteps
 pub mod OneReading

@@ -1,9 +1,9 @@
 -- What the private steps of reading a source's nodes say. No public clause names these words.
-use Rattle.std.specs.Prelude.{◌≡◌, ◌⊎◌, ℕ, ◌+◌, ◌<◌, ◌≤◌, Bool, if◌then◌else◌, List, [], ◌∷◌, ◌++◌, length, map, Option, Some, None}
+use Rattle.std.specs.Prelude.{◌≡◌, ◌⊎◌, ℕ, ◌+◌, ◌<◌, ◌≤◌, Bool, nat_lt, if◌then◌else◌, List, [], ◌∷◌, ◌++◌, length, take, drop, map, Option, Some, None}
 use Rattle.std.specs.List.{flat_map}
 use Rattle.cb_lines.specs.declared.mark.Mark.{Mark}
 use Rattle.cb_lines.specs.Marks.{bytes_of}
-use Rattle.cb_lines.specs.Lines.{lines_of}
+use Rattle.cb_lines.specs.Lines.{lines_of, with_line, StandOn}
 use Rattle.cb_tokens.specs.declared.token.Token.{Token}
 use Rattle.cb_tokens.specs.declared.token.PieceKind.TheVariants as piece
 use Rattle.cb_tokens.specs.declared.first.First.TheVariants as first
@@ -131,6 +131,16 @@ pub record DirectiveGoes (spaced : Bool) (counted : List ℕ) (from : List Mark)
   pub kept : List Token
   pub added : after ≡ before ++ kept
   pub goes : (ms : List Mark) (own : List Token) → ReadsDirective ms own spaced counted from → DirectiveStands ms (own ++ kept) next counted' rest
+
+-- counted lines with that of a row, where tokens of it were kept
+abbrev pub row_counted : ℕ → ℕ → ℕ → List ℕ → List ℕ
+row_counted before after line counted = if nat_lt before after then with_line line counted else counted
+
+-- so many bytes of a directive line are read in a row, and the tokens among them kept, wherever the bytes stand on one line
+abbrev pub GoesInRow : Bool → List ℕ → List Token → List Token → Bool → ℕ → Type 0
+GoesInRow spaced bytes before after spaced' n =
+    (from : List Mark) (line : ℕ) (counted : List ℕ) → bytes ≡ bytes_of from → StandOn line (take n from)
+    → DirectiveGoes spaced counted from before after (Some spaced') (row_counted (length before) (length after) line counted) (drop n from)
 
 -- a token stands behind a #, or the directive has ended and is a node
 abbrev pub StandsBehind : List Mark → List Token → List ℕ → List Mark → Option Second → Type 0

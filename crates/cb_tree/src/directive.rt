@@ -14,25 +14,10 @@ use crate::node::NodeKind;
 use crate::nodes::{Head, part};
 use crate::opening::{Hash, Second, hash_of, kind_ahead, pass_to_second};
 use crate::reading::{Start, look_ahead, pass_counted};
+use crate::row::{keep_token, pass_row};
 use cb_lines::{Lines, Walk};
-use cb_paths::{Bytes, NoMemory};
 use cb_tokens::{PieceKind, Token, TokenKind};
 use std::alloc::Global;
-
-/// Keeps a token of these bytes.
-fn keep_token(
-    alloc: Global,
-    tokens: &mut Vec<Token>,
-    kind: TokenKind,
-    text: &[u8],
-    spaced: bool,
-) -> Result<(), NoMemory>
-    ensures { OnOk result (tokens.new.items ≡ tokens.old.items ++ record { kind = kind; text = text.now; spaced = spaced } ∷ []) }
-{
-    let text = Bytes::from_slice(alloc, text)?;
-    tokens.push(Token { kind, text, spaced })?;
-    Ok(())
-}
 
 /// Reads one piece of a directive line, and answers whether the next token is spaced, or none where the line has ended.
 fn pass_piece(
@@ -90,7 +75,8 @@ fn read_behind(
 {
     let mut spaced = spaced;
     'pieces: loop {
-        match pass_piece(alloc, walk, tokens, counted, spaced)? {
+        let ahead = pass_row(alloc, walk, tokens, counted, spaced)?;
+        match pass_piece(alloc, walk, tokens, counted, ahead)? {
             Some(next) => spaced = next,
             None => return Ok(()),
         }

@@ -13,6 +13,7 @@ mod opening;
 mod part;
 mod reading;
 mod role;
+mod row;
 mod run;
 mod sections;
 mod sequence;

@@ -1,0 +1,139 @@
+//! Directive lines in rows: white space and tokens on one line are read before the walk goes past them, once for all.
+ghost use Rattle.std.specs.Prelude.{ℕ, ◌≡◌, ◌+◌, ◌<◌, ◌≤◌, ◌∷◌, ◌++◌, [], Bool, List, true, false, length, drop, slice_index, Some, IfOk, IfSome, OnOk};
+ghost use Rattle.cb_lines.specs.Marks.{is_line_feed};
+ghost use Rattle.cb_tokens.specs.Cut.{StandsFirst};
+ghost use Rattle.cb_tokens.specs.Plain.{is_plain};
+ghost use Rattle.cb_tokens.specs.declared.first.First.{First};
+ghost use Rattle.cb_tokens.specs.declared.token.Token.{Token};
+ghost use Rattle.cb_tree.specs.Reads.{DirectiveGoes, GoesInRow, row_counted};
+
+use crate::reading::Ahead;
+use cb_lines::{Lines, Walk, one_line};
+use cb_paths::{Bytes, NoMemory};
+use cb_tokens::{First, PieceKind, Token, TokenKind, first_piece, pieces_end_with_lines};
+use std::alloc::Global;
+
+/// How far a directive line is read.
+#[derive(Clone, Copy)]
+pub(crate) struct Reach {
+    /// The number of the bytes that are read.
+    pub(crate) len: usize,
+    /// Whether the next token is spaced.
+    pub(crate) spaced: bool,
+}
+
+/// Keeps a token of these bytes.
+pub(crate) fn keep_token(
+    alloc: Global,
+    tokens: &mut Vec<Token>,
+    kind: TokenKind,
+    text: &[u8],
+    spaced: bool,
+) -> Result<(), NoMemory>
+    ensures { OnOk result (tokens.new.items ≡ tokens.old.items ++ record { kind = kind; text = text.now; spaced = spaced } ∷ []) }
+{
+    let text = Bytes::from_slice(alloc, text)?;
+    tokens.push(Token { kind, text, spaced })?;
+    Ok(())
+}
+
+/// White space or a token that stands at a place and ends by another one; none where anything else stands there.
+fn plain_piece(bytes: &[u8], at: usize, end: usize) -> Option<Ahead>
+    requires { (at < end) × (end ≤ length bytes.now) }
+    ensures { IfSome result (λ p. StandsFirst (drop at bytes.now) (First.Piece p.kind p.len) × (at + p.len ≤ end) × (is_plain p.kind ≡ true)) }
+{
+    let (_, ahead) = bytes.split_at(at);
+    match first_piece(ahead) {
+        First::Piece { kind, len } if len <= end - at => match kind {
+            PieceKind::White | PieceKind::Token(_) => Some(Ahead { kind, len }),
+            PieceKind::Comment | PieceKind::LineEnd => None,
+        },
+        _ => None,
+    }
+}
+
+/// Keeps a piece if it is a token, and answers how far the line is read with it.
+fn keep_piece(
+    alloc: Global,
+    bytes: &[u8],
+    reach: Reach,
+    piece: Ahead,
+    tokens: &mut Vec<Token>,
+) -> Result<Reach, NoMemory>
+    requires stands { StandsFirst (drop reach.len bytes.now) (First.Piece piece.kind piece.len) }
+    requires within { reach.len + piece.len ≤ length bytes.now }
+    requires plain { is_plain piece.kind ≡ true }
+    ensures goes { IfOk result (λ next. (spaced : Bool) (before : List Token) → GoesInRow spaced bytes.now before tokens.old.items reach.spaced reach.len
+        → GoesInRow spaced bytes.now before tokens.new.items next.spaced next.len) }
+    ensures len { IfOk result (λ next. next.len ≡ reach.len + piece.len) }
+    ensures few { OnOk result (length tokens.new.items ≤ length tokens.old.items + piece.len) }
+{
+    one_line();
+    let len = reach.len + piece.len;
+    match piece.kind {
+        PieceKind::Token(kind) => {
+            keep_token(alloc, tokens, kind, &bytes[reach.len..len], reach.spaced)?;
+            Ok(Reach { len, spaced: false })
+        }
+        PieceKind::White => Ok(Reach { len, spaced: true }),
+        PieceKind::Comment | PieceKind::LineEnd => unreachable!(),
+    }
+}
+
+/// Reads white space and tokens at the front of bytes, none of them past a place, and keeps the tokens.
+pub(crate) fn read_row(
+    alloc: Global,
+    bytes: &[u8],
+    end: usize,
+    tokens: &mut Vec<Token>,
+    spaced: bool,
+) -> Result<Reach, NoMemory>
+    requires { end ≤ length bytes.now }
+    ensures within { IfOk result (λ reach. reach.len ≤ end) }
+    ensures no_feed { IfOk result (λ reach. (k : ℕ) → k < reach.len → is_line_feed (slice_index bytes.now k) ≡ false) }
+    ensures few { IfOk result (λ reach. length tokens.new.items ≤ length tokens.old.items + reach.len) }
+    ensures goes { IfOk result (λ reach. GoesInRow spaced bytes.now tokens.old.items tokens.new.items reach.spaced reach.len) }
+{
+    pieces_end_with_lines();
+    let mut reach = Reach { len: 0, spaced };
+    'pieces: while reach.len < end {
+        let Some(piece) = plain_piece(bytes, reach.len, end) else {
+            return Ok(reach);
+        };
+        reach = keep_piece(alloc, bytes, reach, piece, tokens)?;
+    }
+    Ok(reach)
+}
+
+/// Adds a line to those that are counted where tokens on it were kept.
+fn count_line(counted: &mut Lines, before: usize, after: usize, line: u32) -> Result<(), NoMemory>
+    ensures { OnOk result (counted.new ≡ row_counted before after line counted.old) }
+{
+    if before < after {
+        counted.add(line)?;
+    }
+    Ok(())
+}
+
+/// Goes past white space and tokens of a directive line that stand on the line of the first of them, keeps the tokens, and answers
+/// whether the next token is spaced.
+pub(crate) fn pass_row(
+    alloc: Global,
+    walk: &mut Walk,
+    tokens: &mut Vec<Token>,
+    counted: &mut Lines,
+    spaced: bool,
+) -> Result<bool, NoMemory>
+    ensures goes { IfOk result (λ next. DirectiveGoes spaced counted.old walk.old tokens.old.items tokens.new.items (Some next) counted.new walk.new) }
+    ensures shorter { OnOk result (length walk.new ≤ length walk.old) }
+    ensures few { OnOk result (length counted.new + length walk.new ≤ length counted.old + length walk.old) }
+    ensures few_tokens { OnOk result (length tokens.new.items + length walk.new ≤ length tokens.old.items + length walk.old) }
+{
+    let before = tokens.len();
+    let reach = read_row(alloc, walk.rest(), walk.row().len(), tokens, spaced)?;
+    if reach.len > 0 {
+        count_line(counted, before, tokens.len(), walk.line())?;
+        walk.pass_row(reach.len);
+    }
+    Ok(reach.spaced)
+}
