@@ -25,6 +25,8 @@ pub use first::{First, first_piece};
 pub use laws::one_cut;
 pub use lexed::Lexed;
 pub use lexing::tokens;
-pub use plain::{Stretch, pieces_end_with_lines, plain_stretch, white_front};
+pub use plain::{
+    Stretch, begins_with_line_end, pieces_end_with_lines, plain_stretch, white_front,
+};
 pub use token::{PieceKind, Token, TokenKind};
 pub use whole::one_token;

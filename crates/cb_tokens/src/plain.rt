@@ -1,5 +1,5 @@
 //! Bytes that are cut into white space and tokens alone, found without a look at each piece.
-ghost use Rattle.std.specs.Prelude.{ℕ, ◌≡◌, ◌⊎◌, ◌+◌, ◌-◌, ◌<◌, ◌≤◌, true, false, List, length, slice_index};
+ghost use Rattle.std.specs.Prelude.{ℕ, ◌≡◌, ◌⊎◌, ◌↔◌, IsTrue, ◌+◌, ◌-◌, ◌<◌, ◌≤◌, true, false, List, length, slice_index};
 ghost use Rattle.std.specs.List.{prefix_len};
 ghost use Rattle.cb_lines.specs.declared.mark.Mark.{Mark};
 ghost use Rattle.cb_lines.specs.Marks.{is_line_feed};
@@ -40,6 +40,14 @@ pub fn white_front(bytes: &[u8]) -> usize
     ensures no_feed { (k : ℕ) → k < result → is_line_feed (slice_index bytes.now k) ≡ false }
 {
     white_len(bytes)
+}
+
+/// Whether a line end stands at the front.
+#[inline]
+pub fn begins_with_line_end(bytes: &[u8]) -> bool
+    ensures { IsTrue result ↔ StandsFirst bytes.now (First.Piece PieceKind.LineEnd 1) }
+{
+    is_feed_at(bytes, 0)
 }
 
 /// The number of quiet bytes at the front.

@@ -1,7 +1,7 @@
 -- A directive line, piece by piece in a row.
-use Rattle.std.proofs.Common.{◌≡◌, ℕ, ◌+◌, ◌-◌, ◌<◌, ◌≤◌, Bool, true, false, nat_lt, if◌then◌else◌, List, [], ◌∷◌, ◌++◌, length, take, drop, Some, refl, ap, sym, subst, ◌∙◌, arith, inl, inr, get_or, get_or-drop, get_or-take, length-append}
+use Rattle.std.proofs.Common.{◌≡◌, ℕ, ◌+◌, ◌-◌, ◌<◌, ◌≤◌, Bool, true, false, nat_lt, if◌then◌else◌, List, [], ◌∷◌, ◌++◌, length, take, drop, None, Some, refl, ap, sym, subst, ◌∙◌, arith, inl, inr, get_or, get_or-drop, get_or-take, length-append, length-drop}
 use Prim.Native.Nat.{zero, suc}
-use Rattle.std.proofs.lemmas.Bool.{cases_lt, lt-ltb, le-ltb}
+use Rattle.std.proofs.lemmas.Bool.{cases_lt, ltb-true, lt-ltb, le-ltb}
 use Rattle.std.proofs.lemmas.List.{append-nil, drop-drop, drop-map, length-map, length-take-le}
 use Rattle.cb_lines.specs.declared.mark.Mark.{Mark}
 use Rattle.cb_lines.specs.Marks.{bytes_of, is_line_feed}
@@ -16,7 +16,7 @@ use Rattle.cb_tokens.specs.Plain.{is_plain}
 use Rattle.cb_tree.specs.Reads.{DirectiveGoes, DirectiveStands, GoesInRow, row_counted}
 use Rattle.cb_tree.proofs.Pieces.{some_bytes}
 use Rattle.cb_tree.proofs.Runs.{one_line}
-use Rattle.cb_tree.proofs.Directives.{directive_white, directive_token, goes_none, goes_on}
+use Rattle.cb_tree.proofs.Directives.{directive_white, directive_token, directive_ends_line, goes_none, goes_on}
 
 -- what is known of marks on one line
 abbrev pub Once : Type 0
@@ -140,18 +140,28 @@ longer bytes kind len h = some_bytes bytes kind len h.1
 pub one_kept : (before after : List Token) (token : Token) → after ≡ before ++ token ∷ [] → length after ≡ length before + 1
 one_kept before after token e = ap length e ∙ length-append before (token ∷ [])
 
--- a row adds one line at most
-row_few_by : (b : Bool) (line : ℕ) (set : List ℕ) → length (if b then with_line line set else set) ≤ length set + 1
-row_few_by true line set = one_line line set
-row_few_by false line set = omega arith
+-- a row adds one line at most, and none where no token was kept
+row_few_by : (b : Bool) (line n : ℕ) (set : List ℕ) → (b ≡ true → 0 < n) → length (if b then with_line line set else set) ≤ length set + n
+row_few_by true line n set h = omega (arith, one_line line set, h refl)
+row_few_by false line n set h = omega arith
 
-pub row_few : (before after line : ℕ) (set : List ℕ) → length (row_counted before after line set) ≤ length set + 1
-row_few before after line set = row_few_by (nat_lt before after) line set
-
--- and none where no token was kept
-pub row_same : (before after line : ℕ) (set : List ℕ) → after ≤ before → row_counted before after line set ≡ set
-row_same before after line set h = rw (le-ltb before after h) refl
+pub row_few : (before after line n : ℕ) (set : List ℕ) → after ≤ before + n → length (row_counted before after line set) ≤ length set + n
+row_few before after line n set h = row_few_by (nat_lt before after) line n set (λ e. omega (arith, ltb-true before after e, h))
 
 -- a byte of the front
 pub front_byte : (front bytes : List ℕ) (k : ℕ) → front ≡ take (length front) bytes → k < length front → get_or front k 0 ≡ get_or bytes k 0
 front_byte front bytes k e l = ap (λ (bs : List ℕ). get_or bs k 0) e ∙ get_or-take (length front) bytes k 0 l
+
+-- a row that ends with its line
+pub row_ends : (spaced spaced' : Bool) (counted counted' : List ℕ) (bytes : List ℕ) (from : List Mark) (before after : List Token) (n : ℕ)
+    → DirectiveGoes spaced counted from before after (Some spaced') counted' (drop n from) → bytes ≡ bytes_of from
+    → StandsFirst (drop n bytes) (first.Piece kinds.LineEnd 1) → DirectiveGoes spaced counted from before after None counted' (drop (n + 1) from)
+row_ends spaced spaced' counted counted' bytes from before after n h e stands =
+    let there : StandsFirst (bytes_of (drop n from)) (first.Piece kinds.LineEnd 1) = subst (λ (bs : List ℕ). StandsFirst bs (first.Piece kinds.LineEnd 1)) (bytes_behind n bytes from e) stands in
+    subst (λ (rest : List Mark). DirectiveGoes spaced counted from before after None counted' rest) (behind_both n 1 from)
+    (goes_on spaced spaced' counted counted' counted' from (drop n from) (drop 1 (drop n from)) before after after None h
+    (record { kept = []; added = sym (append-nil after); goes = λ ms own directive. rw (append-nil own) (directive_ends_line ms own spaced' counted' (drop n from) 1 there directive) }))
+
+-- it has a mark more
+pub one_more : (bytes : List ℕ) (n : ℕ) → StandsFirst (drop n bytes) (first.Piece kinds.LineEnd 1) → n + 1 ≤ length bytes
+one_more bytes n h = let within : 1 ≤ length (drop n bytes) = h.1.within in omega (arith, within, length-drop n bytes)

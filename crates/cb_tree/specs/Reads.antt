@@ -1,5 +1,5 @@
 -- What the private steps of reading a source's nodes say. No public clause names these words.
-use Rattle.std.specs.Prelude.{◌≡◌, ◌⊎◌, ℕ, ◌+◌, ◌<◌, ◌≤◌, Bool, nat_lt, if◌then◌else◌, List, [], ◌∷◌, ◌++◌, length, take, drop, map, Option, Some, None}
+use Rattle.std.specs.Prelude.{◌≡◌, ◌⊎◌, ℕ, ◌+◌, ◌<◌, ◌≤◌, Bool, true, nat_lt, if◌then◌else◌, List, [], ◌∷◌, ◌++◌, length, take, drop, map, Option, Some, None}
 use Rattle.std.specs.List.{flat_map}
 use Rattle.cb_lines.specs.declared.mark.Mark.{Mark}
 use Rattle.cb_lines.specs.Marks.{bytes_of}
@@ -8,6 +8,7 @@ use Rattle.cb_tokens.specs.declared.token.Token.{Token}
 use Rattle.cb_tokens.specs.declared.token.PieceKind.TheVariants as piece
 use Rattle.cb_tokens.specs.declared.first.First.TheVariants as first
 use Rattle.cb_tokens.specs.Cut.{Piece, StandsFirst, Cuts, IsCut, HasOpenComment}
+use Rattle.cb_tokens.specs.Plain.{is_plain}
 use Rattle.cb_tokens.specs.Logical.{split_lines, line_tokens, later_tokens, token_marks}
 use Rattle.cb_tree.specs.declared.fault.SourceKind.TheVariants as kind
 use Rattle.cb_tree.specs.declared.fault.BuildFault.{BuildFault}
@@ -19,6 +20,8 @@ use Rattle.cb_tree.specs.declared.reading.Start.{Start}
 use Rattle.cb_tree.specs.declared.reading.Place.{Place}
 use Rattle.cb_tree.specs.declared.reading.Place.TheVariants.{LineStart, InLine}
 use Rattle.cb_tree.specs.declared.opening.Second.{Second}
+use Rattle.cb_tree.specs.declared.row.InRow.{InRow}
+use Rattle.cb_tree.specs.declared.row.InRow.TheVariants as row
 use Rattle.cb_tree.specs.Kinds.{is_hash, kind_of}
 use Rattle.cb_tree.specs.Nodes.{Node, nodes_of, total_lines}
 use Rattle.cb_tree.specs.Heads.{Adds, node_with}
@@ -131,6 +134,12 @@ pub record DirectiveGoes (spaced : Bool) (counted : List ℕ) (from : List Mark)
   pub kept : List Token
   pub added : after ≡ before ++ kept
   pub goes : (ms : List Mark) (own : List Token) → ReadsDirective ms own spaced counted from → DirectiveStands ms (own ++ kept) next counted' rest
+
+-- what stands at a place of bytes, of a row that ends at another one: white space or a token to its end, a line end, or else
+abbrev pub IsInRow : List ℕ → ℕ → ℕ → InRow → Type 0
+IsInRow bytes at end (row.Plain p) = StandsFirst (drop at bytes) (first.Piece p.kind p.len) × (at + p.len ≤ end) × (is_plain p.kind ≡ true)
+IsInRow bytes at end row.LineEnd = StandsFirst (drop at bytes) (first.Piece piece.LineEnd 1)
+IsInRow bytes at end row.Beyond = Unit {0}
 
 -- counted lines with that of a row, where tokens of it were kept
 abbrev pub row_counted : ℕ → ℕ → ℕ → List ℕ → List ℕ

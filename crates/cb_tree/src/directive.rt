@@ -75,7 +75,9 @@ fn read_behind(
 {
     let mut spaced = spaced;
     'pieces: loop {
-        let ahead = pass_row(alloc, walk, tokens, counted, spaced)?;
+        let Some(ahead) = pass_row(alloc, walk, tokens, counted, spaced)? else {
+            return Ok(());
+        };
         match pass_piece(alloc, walk, tokens, counted, ahead)? {
             Some(next) => spaced = next,
             None => return Ok(()),

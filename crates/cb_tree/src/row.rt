@@ -1,16 +1,18 @@
 //! Directive lines in rows: white space and tokens on one line are read before the walk goes past them, once for all.
 ghost use Rattle.std.specs.Prelude.{ℕ, ◌≡◌, ◌+◌, ◌<◌, ◌≤◌, ◌∷◌, ◌++◌, [], Bool, List, true, false, length, drop, slice_index, Some, IfOk, IfSome, OnOk};
-ghost use Rattle.cb_lines.specs.Marks.{is_line_feed};
+ghost use Rattle.cb_lines.specs.Marks.{bytes_of, is_line_feed};
 ghost use Rattle.cb_tokens.specs.Cut.{StandsFirst};
 ghost use Rattle.cb_tokens.specs.Plain.{is_plain};
 ghost use Rattle.cb_tokens.specs.declared.first.First.{First};
 ghost use Rattle.cb_tokens.specs.declared.token.Token.{Token};
-ghost use Rattle.cb_tree.specs.Reads.{DirectiveGoes, GoesInRow, row_counted};
+ghost use Rattle.cb_tree.specs.Reads.{DirectiveGoes, GoesInRow, IsInRow, row_counted};
 
 use crate::reading::Ahead;
 use cb_lines::{Lines, Walk, one_line};
 use cb_paths::{Bytes, NoMemory};
-use cb_tokens::{First, PieceKind, Token, TokenKind, first_piece, pieces_end_with_lines};
+use cb_tokens::{
+    First, PieceKind, Token, TokenKind, begins_with_line_end, first_piece, pieces_end_with_lines,
+};
 use std::alloc::Global;
 
 /// How far a directive line is read.
@@ -20,6 +22,19 @@ pub(crate) struct Reach {
     pub(crate) len: usize,
     /// Whether the next token is spaced.
     pub(crate) spaced: bool,
+    /// Whether it is known that a line end stands there.
+    pub(crate) ended: bool,
+}
+
+/// What stands next in a row.
+#[derive(Clone, Copy)]
+enum InRow {
+    /// White space or a token, to its end.
+    Plain(Ahead),
+    /// A line end.
+    LineEnd,
+    /// Anything else, or the end of the row.
+    Beyond,
 }
 
 /// Keeps a token of these bytes.
@@ -37,18 +52,24 @@ pub(crate) fn keep_token(
     Ok(())
 }
 
-/// White space or a token that stands at a place and ends by another one; none where anything else stands there.
-fn plain_piece(bytes: &[u8], at: usize, end: usize) -> Option<Ahead>
-    requires { (at < end) × (end ≤ length bytes.now) }
-    ensures { IfSome result (λ p. StandsFirst (drop at bytes.now) (First.Piece p.kind p.len) × (at + p.len ≤ end) × (is_plain p.kind ≡ true)) }
+/// What stands at a place, of a row that ends at another one.
+fn next_in_row(bytes: &[u8], at: usize, end: usize) -> InRow
+    requires { (at ≤ end) × (end ≤ length bytes.now) }
+    ensures { IsInRow bytes.now at end result }
 {
+    if at == end {
+        return InRow::Beyond;
+    }
     let (_, ahead) = bytes.split_at(at);
+    if begins_with_line_end(ahead) {
+        return InRow::LineEnd;
+    }
     match first_piece(ahead) {
         First::Piece { kind, len } if len <= end - at => match kind {
-            PieceKind::White | PieceKind::Token(_) => Some(Ahead { kind, len }),
-            PieceKind::Comment | PieceKind::LineEnd => None,
+            PieceKind::White | PieceKind::Token(_) => InRow::Plain(Ahead { kind, len }),
+            PieceKind::Comment | PieceKind::LineEnd => InRow::Beyond,
         },
-        _ => None,
+        _ => InRow::Beyond,
     }
 }
 
@@ -65,7 +86,7 @@ fn keep_piece(
     requires plain { is_plain piece.kind ≡ true }
     ensures goes { IfOk result (λ next. (spaced : Bool) (before : List Token) → GoesInRow spaced bytes.now before tokens.old.items reach.spaced reach.len
         → GoesInRow spaced bytes.now before tokens.new.items next.spaced next.len) }
-    ensures len { IfOk result (λ next. next.len ≡ reach.len + piece.len) }
+    ensures len { IfOk result (λ next. (next.len ≡ reach.len + piece.len) × (next.ended ≡ false)) }
     ensures few { OnOk result (length tokens.new.items ≤ length tokens.old.items + piece.len) }
 {
     one_line();
@@ -73,9 +94,9 @@ fn keep_piece(
     match piece.kind {
         PieceKind::Token(kind) => {
             keep_token(alloc, tokens, kind, &bytes[reach.len..len], reach.spaced)?;
-            Ok(Reach { len, spaced: false })
+            Ok(Reach { len, spaced: false, ended: false })
         }
-        PieceKind::White => Ok(Reach { len, spaced: true }),
+        PieceKind::White => Ok(Reach { len, spaced: true, ended: false }),
         PieceKind::Comment | PieceKind::LineEnd => unreachable!(),
     }
 }
@@ -93,16 +114,26 @@ pub(crate) fn read_row(
     ensures no_feed { IfOk result (λ reach. (k : ℕ) → k < reach.len → is_line_feed (slice_index bytes.now k) ≡ false) }
     ensures few { IfOk result (λ reach. length tokens.new.items ≤ length tokens.old.items + reach.len) }
     ensures goes { IfOk result (λ reach. GoesInRow spaced bytes.now tokens.old.items tokens.new.items reach.spaced reach.len) }
+    ensures ended { IfOk result (λ reach. reach.ended ≡ true → StandsFirst (drop reach.len bytes.now) (First.Piece PieceKind.LineEnd 1)) }
 {
     pieces_end_with_lines();
-    let mut reach = Reach { len: 0, spaced };
-    'pieces: while reach.len < end {
-        let Some(piece) = plain_piece(bytes, reach.len, end) else {
-            return Ok(reach);
-        };
-        reach = keep_piece(alloc, bytes, reach, piece, tokens)?;
+    let mut reach = Reach {
+        len: 0,
+        spaced,
+        ended: false,
+    };
+    'pieces: loop {
+        match next_in_row(bytes, reach.len, end) {
+            InRow::Plain(piece) => reach = keep_piece(alloc, bytes, reach, piece, tokens)?,
+            InRow::LineEnd => {
+                return Ok(Reach {
+                    ended: true,
+                    ..reach
+                });
+            }
+            InRow::Beyond => return Ok(reach),
+        }
     }
-    Ok(reach)
 }
 
 /// Adds a line to those that are counted where tokens on it were kept.
@@ -115,25 +146,42 @@ fn count_line(counted: &mut Lines, before: usize, after: usize, line: u32) -> Re
     Ok(())
 }
 
-/// Goes past white space and tokens of a directive line that stand on the line of the first of them, keeps the tokens, and answers
-/// whether the next token is spaced.
+/// Goes past marks, if there are any, of which none is an LF.
+fn pass_some(walk: &mut Walk, count: usize)
+    requires within { count ≤ length walk.old }
+    requires plain { (k : ℕ) → k < count → is_line_feed (slice_index (bytes_of walk.old) k) ≡ false }
+    ensures { walk.new ≡ drop count walk.old }
+{
+    if count > 0 {
+        walk.pass_row(count);
+    }
+}
+
+/// Goes past white space and tokens of a directive line that stand on the line of the first of them, and past the line end behind
+/// them, and keeps the tokens. It answers whether the next token is spaced, or none where the line has ended.
 pub(crate) fn pass_row(
     alloc: Global,
     walk: &mut Walk,
     tokens: &mut Vec<Token>,
     counted: &mut Lines,
     spaced: bool,
-) -> Result<bool, NoMemory>
-    ensures goes { IfOk result (λ next. DirectiveGoes spaced counted.old walk.old tokens.old.items tokens.new.items (Some next) counted.new walk.new) }
+) -> Result<Option<bool>, NoMemory>
+    ensures goes { IfOk result (λ next. DirectiveGoes spaced counted.old walk.old tokens.old.items tokens.new.items next counted.new walk.new) }
     ensures shorter { OnOk result (length walk.new ≤ length walk.old) }
     ensures few { OnOk result (length counted.new + length walk.new ≤ length counted.old + length walk.old) }
     ensures few_tokens { OnOk result (length tokens.new.items + length walk.new ≤ length tokens.old.items + length walk.old) }
 {
-    let before = tokens.len();
-    let reach = read_row(alloc, walk.rest(), walk.row().len(), tokens, spaced)?;
-    if reach.len > 0 {
-        count_line(counted, before, tokens.len(), walk.line())?;
-        walk.pass_row(reach.len);
+    let bytes = walk.rest();
+    if bytes.is_empty() {
+        return Ok(Some(spaced));
     }
-    Ok(reach.spaced)
+    let before = tokens.len();
+    let reach = read_row(alloc, bytes, walk.row().len(), tokens, spaced)?;
+    count_line(counted, before, tokens.len(), walk.line())?;
+    if reach.ended {
+        walk.pass_row(reach.len + 1);
+        return Ok(None);
+    }
+    pass_some(walk, reach.len);
+    Ok(Some(reach.spaced))
 }

@@ -1,19 +1,21 @@
-use Rattle.std.proofs.Common.{drop, arith}
+use Rattle.std.proofs.Common.{◌+◌, ◌-◌, drop, arith}
 use Rattle.cb_tree.proofs.Rows.{no_feed_more, longer}
 use Rattle.cb_tree.proofs.row.read_row.Goals as goal
 
 pub pieces-smaller : goal.pieces-smaller
 pieces-smaller c =
-    let stands = (rw c.in-Some.is at c.plain_piece.ensures).0 in
-    omega (arith, c.in_ok-reach.ensures.len, c.pieces-test.true, longer (drop c.pieces.reach.len c.args.bytes.now) c.in-Some.piece.kind c.in-Some.piece.len stands)
+    let here = rw c.in-Plain.is at c.next_in_row.ensures in
+    omega (arith, c.in_ok-reach-in-Plain.ensures.len.0, here.1, longer (drop c.pieces.reach.len c.args.bytes.now) c.in-Plain.piece.kind c.in-Plain.piece.len here.0)
 
 pub pieces-preserved : goal.pieces-preserved
 pieces-preserved c =
-    let here = rw c.in-Some.is at c.plain_piece.ensures in
+    let here = rw c.in-Plain.is at c.next_in_row.ensures in
+    let reach = c.in_ok-reach-in-Plain.ensures in
     record {
-      within = omega (arith, c.in_ok-reach.ensures.len, here.1, c.pieces.invariant.within);
-      no_feed = no_feed_more c.pieces_end_with_lines.ensures.white c.pieces_end_with_lines.ensures.token c.in-Some.piece.kind c.args.bytes.now c.pieces.reach.len
-          c.in-Some.piece.len c.in_ok-reach.reach.len here.2 here.0 c.in_ok-reach.ensures.len c.pieces.invariant.no_feed;
-      few = omega (arith, c.in_ok-reach.ensures.few, c.in_ok-reach.ensures.len, c.pieces.invariant.few);
-      goes = c.in_ok-reach.ensures.goes c.args.spaced c.args.tokens.now.items c.pieces.invariant.goes;
+      within = omega (arith, reach.len.0, here.1);
+      open_still = reach.len.1;
+      no_feed = no_feed_more c.pieces_end_with_lines.ensures.white c.pieces_end_with_lines.ensures.token c.in-Plain.piece.kind c.args.bytes.now c.pieces.reach.len
+          c.in-Plain.piece.len c.in_ok-reach-in-Plain.reach.len here.2 here.0 reach.len.0 c.pieces.invariant.no_feed;
+      few = omega (arith, reach.few, reach.len.0, c.pieces.invariant.few);
+      goes = reach.goes c.args.spaced c.args.tokens.now.items c.pieces.invariant.goes;
     }
