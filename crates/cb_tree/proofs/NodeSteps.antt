@@ -1,5 +1,5 @@
 -- The nodes of a source, one after another.
-use Rattle.std.proofs.Common.{◌≡◌, inl, inr, ℕ, ◌+◌, ◌<◌, ◌≤◌, List, [], ◌∷◌, ◌++◌, length, take, drop, Some, None, Ok, Err, refl, ap, sym, subst, ◌∙◌, append_assoc, add-one, arith, length-append, length-drop}
+use Rattle.std.proofs.Common.{◌≡◌, inl, inr, ℕ, ◌+◌, ◌<◌, ◌≤◌, List, [], ◌∷◌, ◌++◌, length, take, drop, Option, Some, None, Ok, Err, refl, ap, sym, subst, ◌∙◌, append_assoc, add-one, arith, length-append, length-drop}
 use Rattle.std.proofs.lemmas.List.{append-nil}
 use Rattle.std.proofs.lemmas.List.Sums.{sum_by-append, sum_by-cons}
 use Rattle.std.specs.Prelude.{slice_get}
@@ -10,13 +10,16 @@ use Rattle.cb_lines.specs.Marks.{bytes_of}
 use Rattle.cb_tokens.specs.declared.token.PieceKind.{PieceKind}
 use Rattle.cb_tokens.specs.declared.first.First.TheVariants as first
 use Rattle.cb_tokens.specs.Cut.{Piece, StandsFirst, Cuts, IsCut}
+use Rattle.cb_tokens.specs.declared.token.Token.{Token}
+use Rattle.cb_tree.specs.declared.nodes.Head.{Head}
+use Rattle.cb_tree.specs.Heads.{node_with}
 use Rattle.cb_tree.specs.declared.fault.BadSource.{BadSource}
 use Rattle.cb_tree.specs.declared.fault.BuildFault.{BuildFault}
 use Rattle.cb_tree.specs.declared.fault.BuildFault.TheVariants.{Bad, NoMemory}
 use Rattle.cb_tree.specs.declared.sections.OpenSection.{OpenSection}
 use Rattle.cb_tree.specs.Nodes.{Node, nodes_of, node_line, total_lines}
 use Rattle.cb_tree.specs.Sections.{sections_after, fault_at_end, fault_or, first_fault}
-use Rattle.cb_tree.specs.Reads.{Reads, Tells, ReadsOut, Refuses, AreSound}
+use Rattle.cb_tree.specs.Reads.{Reads, ReadsNode, Tells, ReadsOut, Refuses, AreSound}
 use Rattle.cb_tree.proofs.Pieces.{passes, Cuts-trans, cut_of_none, open_after}
 use Rattle.cb_tree.proofs.ReadsMore.{reads_none, reads_on, tells_after}
 
@@ -27,6 +30,14 @@ Cuts-shorter ms (p ∷ ps) rest h = omega (arith, Cuts-shorter (drop (length p.m
 
 pub reads_shorter : (ms : List Mark) (ns : List Node) (rest : List Mark) → Reads ms ns rest → length rest ≤ length ms
 reads_shorter ms ns rest a = Cuts-shorter ms a.pieces rest a.cut
+
+-- a node behind what is no node
+pub node_after : (ms mid rest : List Mark) (before after : List Token) (head : Option Head) → Reads ms [] mid → ReadsNode mid rest before after head
+    → ReadsNode ms rest before after head
+node_after ms mid rest before after None a h = (reads_on ms [] mid [] rest a h.0, h.1, h.2)
+node_after ms mid rest before after (Some head) a ((own, adds, reads), less, few) =
+    let fewer = reads_shorter ms [] mid a in
+    ((own, adds, reads_on ms [] mid (node_with own head ∷ []) rest a reads), omega arith, omega arith)
 
 -- one more piece
 pub cuts_on : (ms : List Mark) (ps : List Piece) (rest : List Mark) (k : PieceKind) (n : ℕ) → Cuts ms ps rest → StandsFirst (bytes_of rest) (first.Piece k n)

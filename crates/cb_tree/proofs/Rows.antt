@@ -48,10 +48,10 @@ stand_behind line (suc n) k (m ∷ ms) h =
     stand_behind line n k ms (subst (λ (i : ℕ). StandOn line (take i (m ∷ ms))) e h).1
 
 -- the bytes behind so many
-bytes_behind : (n : ℕ) (bytes : List ℕ) (from : List Mark) → bytes ≡ bytes_of from → drop n bytes ≡ bytes_of (drop n from)
+pub bytes_behind : (n : ℕ) (bytes : List ℕ) (from : List Mark) → bytes ≡ bytes_of from → drop n bytes ≡ bytes_of (drop n from)
 bytes_behind n bytes from e = ap (drop n) e ∙ drop-map (λ (m : Mark). m.byte) n from
 
-behind_both : (n len : ℕ) (from : List Mark) → drop len (drop n from) ≡ drop (n + len) from
+pub behind_both : (n len : ℕ) (from : List Mark) → drop len (drop n from) ≡ drop (n + len) from
 behind_both n len from = drop-drop len n from
 
 some_taken : (len : ℕ) (mid : List Mark) (kind : TokenKind) → StandsFirst (bytes_of mid) (first.Piece (kinds.Token kind) len) → 0 < length (take len mid)

@@ -1,5 +1,5 @@
 -- Stretches of white space and tokens in a run.
-use Rattle.std.proofs.Common.{◌≡◌, ℕ, suc, zero, ◌+◌, ◌<◌, ◌≤◌, true, false, List, [], ◌∷◌, ◌++◌, length, get_or, take, drop, refl, ap, sym, subst, ◌∙◌, arith, length-drop, length-append, ⊎_elim, codes}
+use Rattle.std.proofs.Common.{◌≡◌, ℕ, suc, zero, ◌<◌, true, false, List, [], ◌∷◌, ◌++◌, length, get_or, take, drop, refl, ap, sym, subst, ◌∙◌, arith, length-append, ⊎_elim, codes}
 use Rattle.std.specs.List.{list_all}
 use Rattle.std.specs.Str.{bytes_eq}
 use Rattle.std.proofs.lemmas.Bool.{false≢true, and_parts, or_cases, false_from_ne_true}
@@ -16,7 +16,7 @@ use Rattle.cb_tree.specs.declared.reading.Place.TheVariants.{LineStart, InLine}
 use Rattle.cb_tree.specs.Kinds.{is_hash_text}
 use Rattle.cb_tree.specs.Reads.{ReadsRun, solid}
 use Rattle.cb_tree.proofs.Pieces.{some_bytes}
-use Rattle.cb_tree.proofs.Runs.{with_lines-append, run_white, run_token, run_any_token, one_line}
+use Rattle.cb_tree.proofs.Runs.{run_start, with_lines-append, run_white, run_token, run_any_token}
 
 step : (ms : List Mark) (counted : List ℕ) (rest : List Mark) (k : PieceKind) (marks : List Mark) (ps : List Piece) (end : List Mark)
     → Cuts rest (record { kind = k; marks = marks } ∷ ps) end → is_plain k ≡ true
@@ -53,6 +53,15 @@ no_hash n bs some hash percent =
     (λ e. percent (sym head ∙ ap (λ (l : List ℕ). get_or l 0 0) ((bytes_eq-Decides (take n bs) (codes "%:")).0 e)))
     (or_cases (bytes_eq (take n bs) (codes "#")) (bytes_eq (take n bs) (codes "%:")) h))
 
+-- the tokens of a stretch on one line add this line
+on_one_line : (counted : List ℕ) (rest : List Mark) (n line : ℕ) (s : CutsPlain rest n) → 0 < length s.first
+    → ((xs : List Mark) (set : List ℕ) → 0 < length xs → StandOn line xs → with_lines xs set ≡ with_line line set) → StandOn line (take n rest)
+    → with_lines (solid s.pieces) (with_lines (take (length s.first) rest) counted) ≡ with_line line counted
+on_one_line counted rest n line s some once stands =
+    let marks : List Mark = s.first ++ solid s.pieces in
+    ap (λ (x : List Mark). with_lines (solid s.pieces) (with_lines x counted)) (sym s.cut.0.marks)
+    ∙ (sym (with_lines-append s.first (solid s.pieces) counted) ∙ once marks counted (omega (arith, length-append s.first (solid s.pieces))) (s.on_line line stands))
+
 -- a stretch on one line
 pub run_stretch : (ms : List Mark) (place : Place) (counted : List ℕ) (rest : List Mark) (n line : ℕ) → CutsPlain rest n
     → (place ≡ LineStart → (get_or (bytes_of rest) 0 0 ≡ 35 → ⊥) × (get_or (bytes_of rest) 0 0 ≡ 37 → ⊥))
@@ -63,17 +72,20 @@ run_stretch ms place counted rest n line s hash once stands run =
     let some : 0 < len = some_bytes (bytes_of rest) (kinds.Token s.kind) len s.cut.0.first.1 in
     let head : ReadsRun ms InLine (with_lines (take len rest) counted) (drop len rest) =
     run_any_token ms place counted rest s.kind len s.cut.0.first (λ e. no_hash len (bytes_of rest) some (hash e).0 (hash e).1) run in
-    let all = run_pieces ms (with_lines (take len rest) counted) (drop len rest) s.pieces (drop n rest) s.cut.1 s.plain head in
-    let marks : List Mark = s.first ++ solid s.pieces in
-    let same : with_lines (solid s.pieces) (with_lines (take len rest) counted) ≡ with_line line counted =
-    ap (λ (x : List Mark). with_lines (solid s.pieces) (with_lines x counted)) (sym s.cut.0.marks)
-    ∙ (sym (with_lines-append s.first (solid s.pieces) counted) ∙ once marks counted (omega (arith, length-append s.first (solid s.pieces))) (s.on_line line stands)) in
-    subst (λ (set : List ℕ). ReadsRun ms InLine set (drop n rest)) same all
+    subst (λ (set : List ℕ). ReadsRun ms InLine set (drop n rest)) (on_one_line counted rest n line s some once stands)
+    (run_pieces ms (with_lines (take len rest) counted) (drop len rest) s.pieces (drop n rest) s.cut.1 s.plain head)
 
--- a stretch adds one line at most
-pub stretch_few : (n line : ℕ) (rest : List Mark) (counted : List ℕ) → 0 < n → n ≤ length rest
-    → length (with_line line counted) + length (drop n rest) ≤ length counted + length rest
-stretch_few n line rest counted some within = omega (arith, one_line line counted, length-drop n rest)
+-- and one that begins a run
+pub start_stretch : (rest : List Mark) (n line : ℕ) → CutsPlain rest n → (get_or (bytes_of rest) 0 0 ≡ 35 → ⊥) × (get_or (bytes_of rest) 0 0 ≡ 37 → ⊥)
+    → ((xs : List Mark) (set : List ℕ) → 0 < length xs → StandOn line xs → with_lines xs set ≡ with_line line set) → StandOn line (take n rest)
+    → ReadsRun rest InLine (with_line line []) (drop n rest)
+start_stretch rest n line s hash once stands =
+    let len : ℕ = length s.first in
+    let some : 0 < len = some_bytes (bytes_of rest) (kinds.Token s.kind) len s.cut.0.first.1 in
+    let head : ReadsRun rest InLine (with_lines (take len rest) []) (drop len rest) =
+    run_start rest s.kind len s.cut.0.first (no_hash len (bytes_of rest) some hash.0 hash.1) in
+    subst (λ (set : List ℕ). ReadsRun rest InLine set (drop n rest)) (on_one_line [] rest n line s some once stands)
+    (run_pieces rest (with_lines (take len rest) []) (drop len rest) s.pieces (drop n rest) s.cut.1 s.plain head)
 
 pub first_byte : (xs bs : List ℕ) → xs ≡ take (length xs) bs → 0 < length xs → get_or bs 0 0 ≡ get_or xs 0 0
 first_byte xs bs e some = sym (head_taken (length xs) bs some) ∙ ap (λ (ys : List ℕ). get_or ys 0 0) (sym e)

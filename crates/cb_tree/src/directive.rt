@@ -13,7 +13,7 @@ use crate::kind::kind_behind_hash;
 use crate::node::NodeKind;
 use crate::nodes::{Head, part};
 use crate::opening::{Hash, Second, hash_of, kind_ahead, pass_to_second};
-use crate::reading::{Start, look_ahead, pass_counted};
+use crate::reading::{Start, look_ahead, pass_ahead, pass_counted};
 use crate::row::{keep_token, pass_row};
 use cb_lines::{Lines, Walk};
 use cb_tokens::{PieceKind, Token, TokenKind};
@@ -36,7 +36,7 @@ fn pass_piece(
         None => Ok(None),
         Some(piece) => match piece.kind {
             PieceKind::White => {
-                walk.pass(piece.len);
+                pass_ahead(walk, piece);
                 Ok(Some(true))
             }
             PieceKind::Comment => {
@@ -44,7 +44,7 @@ fn pass_piece(
                 Ok(Some(true))
             }
             PieceKind::LineEnd => {
-                walk.pass(piece.len);
+                pass_ahead(walk, piece);
                 Ok(None)
             }
             PieceKind::Token(kind) => {

@@ -55,6 +55,19 @@ pub(crate) fn look_ahead(walk: &Walk) -> Result<Option<Ahead>, BuildFault>
     }
 }
 
+/// Goes past what stands next.
+pub(crate) fn pass_ahead(walk: &mut Walk, piece: Ahead)
+    requires { StandsFirst (bytes_of walk.old) (First.Piece piece.kind piece.len) }
+    ensures { walk.new ≡ drop piece.len walk.old }
+{
+    pieces_end_with_lines();
+    match piece.kind {
+        PieceKind::White => walk.pass_row(piece.len),
+        PieceKind::LineEnd => walk.pass_row(piece.len),
+        PieceKind::Comment | PieceKind::Token(_) => walk.pass(piece.len),
+    }
+}
+
 /// Goes past a token and adds its lines.
 pub(crate) fn pass_counted(
     walk: &mut Walk,
@@ -89,7 +102,7 @@ pub(crate) fn skip_white(walk: &mut Walk) -> Result<Option<Start>, BuildFault>
             return Ok(None);
         };
         match token_kind(piece.kind) {
-            None => walk.pass(piece.len),
+            None => pass_ahead(walk, piece),
             Some(kind) => {
                 return Ok(Some(Start {
                     kind,

@@ -94,9 +94,17 @@ fn keep_piece(
     match piece.kind {
         PieceKind::Token(kind) => {
             keep_token(alloc, tokens, kind, &bytes[reach.len..len], reach.spaced)?;
-            Ok(Reach { len, spaced: false, ended: false })
+            Ok(Reach {
+                len,
+                spaced: false,
+                ended: false,
+            })
         }
-        PieceKind::White => Ok(Reach { len, spaced: true, ended: false }),
+        PieceKind::White => Ok(Reach {
+            len,
+            spaced: true,
+            ended: false,
+        }),
         PieceKind::Comment | PieceKind::LineEnd => unreachable!(),
     }
 }

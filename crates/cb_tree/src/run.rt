@@ -10,8 +10,8 @@ ghost use Rattle.cb_tree.specs.Reads.{Reads, ReadsRun, RunGoes, Tells, text_node
 
 use crate::fault::BuildFault;
 use crate::kind::is_hash_text;
-use crate::reading::{Place, Start, look_ahead, pass_counted};
-use crate::stretch::pass_stretch;
+use crate::reading::{Place, Start, look_ahead, pass_ahead, pass_counted};
+use crate::stretch::pass_lines;
 use cb_lines::{Lines, Walk};
 use cb_tokens::PieceKind;
 use std::alloc::Global;
@@ -64,7 +64,7 @@ fn pass_piece(
         None => Ok(None),
         Some(piece) => match piece.kind {
             PieceKind::White => {
-                walk.pass(piece.len);
+                pass_ahead(walk, piece);
                 Ok(Some(place))
             }
             PieceKind::Comment => {
@@ -72,7 +72,7 @@ fn pass_piece(
                 Ok(Some(place))
             }
             PieceKind::LineEnd => {
-                walk.pass(piece.len);
+                pass_ahead(walk, piece);
                 Ok(Some(Place::LineStart))
             }
             PieceKind::Token(kind) => {
@@ -83,6 +83,25 @@ fn pass_piece(
                 pass_token(walk, counted, place, token)
             }
         },
+    }
+}
+
+/// Reads a run of text on to its end, and answers its counted lines, of which some were known.
+pub(crate) fn read_on(walk: &mut Walk, known: Lines, place: Place) -> Result<Lines, BuildFault>
+    ensures reads { IfOk result (λ counted. (ms : List Mark) → ReadsRun ms place known walk.old → Reads ms (text_node counted ∷ []) walk.new) }
+    ensures shorter { OnOk result (length walk.new ≤ length walk.old) }
+    ensures few { IfOk result (λ counted. length counted + length walk.new ≤ length known + length walk.old) }
+    ensures tells { IfErr result (λ fault. (ms : List Mark) → ReadsRun ms place known walk.old → Tells ms fault) }
+{
+    let mut counted = known;
+    let mut place = place;
+    let mut most = usize::MAX;
+    'pieces: loop {
+        place = pass_lines(walk, &mut counted, place, &mut most)?;
+        match pass_piece(walk, &mut counted, place)? {
+            Some(next) => place = next,
+            None => return Ok(counted),
+        }
     }
 }
 
@@ -97,13 +116,6 @@ pub(crate) fn read_run(alloc: Global, walk: &mut Walk, token: Start) -> Result<L
 {
     let mut counted = Lines::new(alloc);
     pass_counted(walk, token, &mut counted)?;
-    let mut place = Place::InLine;
-    let mut most = usize::MAX;
-    'pieces: loop {
-        place = pass_stretch(walk, &mut counted, place, &mut most)?;
-        match pass_piece(walk, &mut counted, place)? {
-            Some(next) => place = next,
-            None => return Ok(counted),
-        }
-    }
+    let all = read_on(walk, counted, Place::InLine)?;
+    Ok(all)
 }

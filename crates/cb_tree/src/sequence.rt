@@ -1,5 +1,5 @@
 //! The nodes of a source in order, with the first fault among them.
-ghost use Rattle.std.specs.Prelude.{◌≡◌, IfOk, IfErr};
+ghost use Rattle.std.specs.Prelude.{◌≡◌, false, IfOk, IfErr};
 ghost use Rattle.cb_tree.specs.Reads.{Tells, ReadsNode, ReadsOut, Refuses, AreSound};
 
 use crate::directive::read_directive;
@@ -9,15 +9,30 @@ use crate::node::NodeKind;
 use crate::nodes::{Head, Nodes};
 use crate::opening::Hash;
 use crate::reading::{look_ahead, skip_white};
-use crate::run::read_run;
+use crate::run::{read_on, read_run};
 use crate::sections::Sections;
+use crate::stretch::{begin_run, pass_white};
 use crate::tree::first_line;
-use cb_lines::Walk;
+use cb_lines::{Lines, Walk};
 use cb_tokens::Token;
 use std::alloc::Global;
 
-/// Reads the next node and adds its tokens to those of the nodes before it, or goes to the end of the source where there is none.
-fn read_node(
+/// The head of a run of text behind so many tokens.
+fn text_head(count: usize, counted: Lines) -> Head
+    ensures { result ≡ record { from = count; to = count; kind = NodeKind.Text; hash = Hash.Sign; spaced = false; counted = counted } }
+{
+    Head {
+        from: count,
+        to: count,
+        kind: NodeKind::Text,
+        hash: Hash::Sign,
+        spaced: false,
+        counted,
+    }
+}
+
+/// Reads the next node from its first token on, which need not stand next, or goes to the end of the source where there is none.
+fn read_from_token(
     alloc: Global,
     walk: &mut Walk,
     tokens: &mut Vec<Token>,
@@ -33,15 +48,29 @@ fn read_node(
         return Ok(Some(head));
     }
     let counted = read_run(alloc, walk, token)?;
-    let count = tokens.len();
-    Ok(Some(Head {
-        from: count,
-        to: count,
-        kind: NodeKind::Text,
-        hash: Hash::Sign,
-        spaced: false,
-        counted,
-    }))
+    Ok(Some(text_head(tokens.len(), counted)))
+}
+
+/// Reads the next node and adds its tokens to those of the nodes before it, or goes to the end of the source where there is none.
+fn read_node(
+    alloc: Global,
+    walk: &mut Walk,
+    tokens: &mut Vec<Token>,
+) -> Result<Option<Head>, BuildFault>
+    ensures reads { IfOk result (ReadsNode walk.old walk.new tokens.old.items tokens.new.items) }
+    ensures tells { IfErr result (Tells walk.old) }
+{
+    pass_white(walk);
+    match begin_run(alloc, walk)? {
+        Some(begun) => {
+            let counted = read_on(walk, begun.counted, begun.place)?;
+            Ok(Some(text_head(tokens.len(), counted)))
+        }
+        None => {
+            let head = read_from_token(alloc, walk, tokens)?;
+            Ok(head)
+        }
+    }
 }
 
 /// Reads the rest of a source after a node's fault: a comment that is open overrules it.

@@ -1,15 +1,19 @@
 //! Stretches of a run that are passed without a look at each piece.
-ghost use Rattle.std.specs.Prelude.{ℕ, ◌≡◌, ◌≢◌, ◌+◌, ◌≤◌, List, length, slice_index, true, false, IfOk, IfErr, OnOk};
+ghost use Rattle.std.specs.Prelude.{ℕ, ◌≡◌, ◌≢◌, ◌+◌, ◌<◌, ◌≤◌, [], List, length, drop, slice_index, true, false, IfOk, IfErr, IfSome, OnOk, MatchOption};
 ghost use Rattle.cb_lines.specs.declared.mark.Mark.{Mark};
-ghost use Rattle.cb_tree.specs.Reads.{ReadsRun, Tells};
+ghost use Rattle.cb_lines.specs.Marks.{bytes_of, is_line_feed};
+ghost use Rattle.cb_tree.specs.Reads.{Reads, ReadsRun, Tells};
 
 use crate::fault::BuildFault;
 use crate::reading::Place;
 use cb_lines::{Lines, Walk, one_line};
-use cb_tokens::{plain_stretch, white_front};
+use cb_paths::NoMemory;
+use cb_tokens::{begins_with_line_end, plain_stretch, white_front};
+use std::alloc::Global;
 
 /// Goes past white space.
-fn pass_white(walk: &mut Walk)
+pub(crate) fn pass_white(walk: &mut Walk)
+    ensures blank { Reads walk.old [] walk.new }
     ensures goes { (ms : List Mark) (place : Place) (counted : List ℕ) → ReadsRun ms place counted walk.old → ReadsRun ms place counted walk.new }
     ensures shorter { length walk.new ≤ length walk.old }
 {
@@ -29,10 +33,27 @@ fn may_be_directive(place: Place, bytes: &[u8]) -> bool
     }
 }
 
+/// Goes past the front of a line of a run, and past the line end where one stands behind it.
+fn pass_front(walk: &mut Walk, len: usize) -> Place
+    requires full { 0 < len }
+    requires within { len ≤ length walk.old }
+    requires plain { (k : ℕ) → k < len → is_line_feed (slice_index (bytes_of walk.old) k) ≡ false }
+    ensures goes { (ms : List Mark) (counted : List ℕ) → ReadsRun ms Place.InLine counted (drop len walk.old) → ReadsRun ms result counted walk.new }
+    ensures shorter { length walk.new + len ≤ length walk.old }
+{
+    let (_, behind) = walk.rest().split_at(len);
+    if begins_with_line_end(behind) {
+        walk.pass_row(len + 1);
+        return Place::LineStart;
+    }
+    walk.pass_row(len);
+    Place::InLine
+}
+
 /// Goes past white space and what follows it of the line up to where each piece has to be looked at, unless a directive may begin
-/// there. It does nothing while more bytes are left than `most`, and lowers `most` past those that it looked at: so it looks at
-/// each byte once, however little of them it can go past.
-pub(crate) fn pass_stretch(
+/// there; and past the line end, if that is all of the line. It does nothing while more bytes are left than `most`, and lowers `most`
+/// past those that it looked at: so it looks at each byte once, however little of them it can go past.
+fn pass_stretch(
     walk: &mut Walk,
     counted: &mut Lines,
     place: Place,
@@ -58,6 +79,67 @@ pub(crate) fn pass_stretch(
     }
     one_line();
     counted.add(walk.line())?;
-    walk.pass_row(stretch.len);
-    Ok(Place::InLine)
+    Ok(pass_front(walk, stretch.len))
+}
+
+/// Whether no line was passed to its end, by the bytes that were left before and are left now.
+fn has_stopped(place: Place, before: usize, now: usize) -> bool
+    ensures { result ≡ false → now ≢ before }
+{
+    match place {
+        Place::LineStart => now == before,
+        Place::InLine => true,
+    }
+}
+
+/// Goes past lines of a run, and up to where each piece has to be looked at.
+pub(crate) fn pass_lines(
+    walk: &mut Walk,
+    counted: &mut Lines,
+    place: Place,
+    most: &mut usize,
+) -> Result<Place, BuildFault>
+    ensures goes { IfOk result (λ next. (ms : List Mark) → ReadsRun ms place counted.old walk.old → ReadsRun ms next counted.new walk.new) }
+    ensures shorter { OnOk result (length walk.new ≤ length walk.old) }
+    ensures few { OnOk result (length counted.new + length walk.new ≤ length counted.old + length walk.old) }
+    ensures tells { IfErr result (λ fault. (ms : List Mark) → ReadsRun ms place counted.old walk.old → Tells ms fault) }
+{
+    let mut place = place;
+    'lines: loop {
+        let left = walk.rest().len();
+        place = pass_stretch(walk, counted, place, most)?;
+        if has_stopped(place, left, walk.rest().len()) {
+            return Ok(place);
+        }
+    }
+}
+
+/// A run that has begun.
+#[derive(Drop)]
+pub(crate) struct Begun {
+    /// Its counted lines.
+    pub(crate) counted: Lines,
+    /// Where it is read on.
+    pub(crate) place: Place,
+}
+
+/// Begins a run with the front of its first line, if no directive may begin there.
+pub(crate) fn begin_run(alloc: Global, walk: &mut Walk) -> Result<Option<Begun>, NoMemory>
+    ensures begins { IfOk result (λ begun. MatchOption begun (walk.new ≡ walk.old) (λ run. ReadsRun walk.old run.place run.counted walk.new)) }
+    ensures shorter { IfOk result (λ begun. IfSome begun (λ _. length walk.new < length walk.old)) }
+    ensures few { IfOk result (λ begun. IfSome begun (λ run. length run.counted + length walk.new ≤ length walk.old)) }
+{
+    let row = walk.row();
+    if may_be_directive(Place::LineStart, row) {
+        return Ok(None);
+    }
+    let stretch = plain_stretch(row);
+    if stretch.len == 0 {
+        return Ok(None);
+    }
+    one_line();
+    let mut counted = Lines::new(alloc);
+    counted.add(walk.line())?;
+    let place = pass_front(walk, stretch.len);
+    Ok(Some(Begun { counted, place }))
 }

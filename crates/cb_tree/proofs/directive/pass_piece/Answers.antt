@@ -19,33 +19,33 @@ returns-in-White-clause-goes c = record {
   kept = [];
   added = sym (append-nil c.args.tokens.now.items);
   goes = λ ms own line.
-      rw (append-nil own, c.pass.ensures)
+      rw (append-nil own, c.pass_ahead.ensures)
       (directive_white ms own c.args.spaced c.args.counted.now c.args.walk.now c.in-Some.piece.len (rw (c.in-Some.is, c.in-White.is) at c.in_ok-look_ahead.ensures) line);
 }
 
 pub returns-in-White-clause-shorter : goal.returns-in-White-clause-shorter
 returns-in-White-clause-shorter c =
-    rw c.pass.ensures (shorter c.args.walk.now kinds.White c.in-Some.piece.len (rw (c.in-Some.is, c.in-White.is) at c.in_ok-look_ahead.ensures))
+    rw c.pass_ahead.ensures (shorter c.args.walk.now kinds.White c.in-Some.piece.len (rw (c.in-Some.is, c.in-White.is) at c.in_ok-look_ahead.ensures))
 
 pub returns-in-Comment-clause-goes : goal.returns-in-Comment-clause-goes
 returns-in-Comment-clause-goes c = record {
   kept = [];
   added = sym (append-nil c.args.tokens.now.items);
   goes = λ ms own line.
-      rw (append-nil own, c.pass-in-Comment.ensures)
+      rw (append-nil own, c.pass.ensures)
       (directive_comment ms own c.args.spaced c.args.counted.now c.args.walk.now c.in-Some.piece.len (rw (c.in-Some.is, c.in-Comment.is) at c.in_ok-look_ahead.ensures) line);
 }
 
 pub returns-in-Comment-clause-shorter : goal.returns-in-Comment-clause-shorter
 returns-in-Comment-clause-shorter c =
-    rw c.pass-in-Comment.ensures (shorter c.args.walk.now kinds.Comment c.in-Some.piece.len (rw (c.in-Some.is, c.in-Comment.is) at c.in_ok-look_ahead.ensures))
+    rw c.pass.ensures (shorter c.args.walk.now kinds.Comment c.in-Some.piece.len (rw (c.in-Some.is, c.in-Comment.is) at c.in_ok-look_ahead.ensures))
 
 pub returns-in-LineEnd-clause-goes : goal.returns-in-LineEnd-clause-goes
 returns-in-LineEnd-clause-goes c = record {
   kept = [];
   added = sym (append-nil c.args.tokens.now.items);
   goes = λ ms own line.
-      rw (append-nil own, c.pass-in-LineEnd.ensures)
+      rw (append-nil own, c.pass_ahead-in-LineEnd.ensures)
       (directive_ends_line ms own c.args.spaced c.args.counted.now c.args.walk.now c.in-Some.piece.len (rw (c.in-Some.is, c.in-LineEnd.is) at c.in_ok-look_ahead.ensures) line);
 }
 

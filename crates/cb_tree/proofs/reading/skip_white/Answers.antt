@@ -11,10 +11,10 @@ returns-in_err-piece-clause-next c =
 
 pub pieces-smaller : goal.pieces-smaller
 pieces-smaller c =
-    rw c.pass.ensures (shorter c.pieces.walk c.in-Some.piece.kind c.in-Some.piece.len (rw c.in-Some.is at c.in_ok-piece.ensures))
+    rw c.pass_ahead.ensures (shorter c.pieces.walk c.in-Some.piece.kind c.in-Some.piece.len (rw c.in-Some.is at c.in_ok-piece.ensures))
 
 pub pieces-preserved : goal.pieces-preserved
 pieces-preserved c =
-    rw c.pass.ensures
+    rw c.pass_ahead.ensures
     (reads_on _ [] c.pieces.walk [] _ c.pieces.invariant
     (reads_blank c.pieces.walk c.in-Some.piece.kind c.in-Some.piece.len (rw c.in-Some.is at c.in_ok-piece.ensures) c.in-None.ensures))

@@ -1,6 +1,6 @@
-use Rattle.std.proofs.Common.{◌≡◌, ◌+◌, ◌<◌, ◌≤◌, List, ℕ, length, get_or, drop, take, ap, sym, ◌∙◌, arith, length-drop}
+use Rattle.std.proofs.Common.{◌≡◌, ◌+◌, List, ℕ, length, get_or, ap, sym, ◌∙◌, arith, length-drop}
 use Rattle.cb_lines.specs.Marks.{bytes_of, first_line, is_line_feed}
-use Rattle.cb_tree.proofs.Rows.{row_few, row_ends, one_more, front_byte}
+use Rattle.cb_tree.proofs.Rows.{row_few, row_ends, front_byte}
 use Rattle.cb_tree.proofs.row.pass_row.Goals as goal
 
 pub returns-then-reach-clause-goes : goal.returns-then-reach-clause-goes

@@ -1,4 +1,4 @@
-use Rattle.std.proofs.Common.{◌+◌, ◌-◌, drop, arith}
+use Rattle.std.proofs.Common.{drop, arith}
 use Rattle.cb_tree.proofs.Rows.{no_feed_more, longer}
 use Rattle.cb_tree.proofs.row.read_row.Goals as goal
 

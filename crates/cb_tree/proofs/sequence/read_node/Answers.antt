@@ -1,31 +1,36 @@
-use Rattle.std.proofs.Common.{[], refl, ◌∙◌, sym, arith}
+use Rattle.std.proofs.Common.{[], refl, ◌∙◌, sym, subst, List, arith}
 use Rattle.std.proofs.lemmas.List.{append-nil}
 use Rattle.std.proofs.lemmas.Result.{err_from_is_err_and}
+use Rattle.cb_lines.specs.declared.mark.Mark.{Mark}
+use Rattle.cb_tree.specs.Reads.{Reads}
 use Rattle.cb_tree.proofs.ReadsMore.{reads_on, tells_after}
-use Rattle.cb_tree.proofs.NodeSteps.{reads_shorter}
+use Rattle.cb_tree.proofs.NodeSteps.{node_after}
 use Rattle.cb_tree.proofs.sequence.read_node.Goals as goal
 
-pub returns-in_err-head-clause-tells : goal.returns-in_err-head-clause-tells
-returns-in_err-head-clause-tells c =
-    let p = err_from_is_err_and c.from_residual-in_err-head.result c.from_residual-in_err-head.ensures.1 in
-    rw (p.1, p.2) (tells_after c.args.walk.now c.skip_white.new.walk [] c.in_err-head.field-0.0 c.in_ok-token.ensures.reads c.in_err-head.ensures.tells)
+pub returns-in_err-counted-in-Some-clause-tells : goal.returns-in_err-counted-in-Some-clause-tells
+returns-in_err-counted-in-Some-clause-tells c =
+    let p = err_from_is_err_and c.from_residual-in_err-counted-in-Some.result c.from_residual-in_err-counted-in-Some.ensures.1 in
+    let begins = rw c.in-Some.is at c.in_ok-begun.ensures.begins in
+    rw (p.1, p.2) (tells_after c.args.walk.now c.pass_white.new.walk [] c.in_err-counted-in-Some.field-0.0 c.pass_white.ensures.blank (c.in_err-counted-in-Some.ensures.tells c.pass_white.new.walk begins))
 
-pub returns-then-is_hash_text-clause-reads : goal.returns-then-is_hash_text-clause-reads
-returns-then-is_hash_text-clause-reads c =
-    let (own, adds, reads) = c.in_ok-head.ensures.reads in (
-      (own, adds, reads_on c.args.walk.now [] c.skip_white.new.walk _ c.read_directive.new.walk c.in_ok-token.ensures.reads reads),
-      omega (arith, reads_shorter c.args.walk.now [] c.skip_white.new.walk c.in_ok-token.ensures.reads, c.in_ok-head.ensures.shorter),
-      omega (arith, reads_shorter c.args.walk.now [] c.skip_white.new.walk c.in_ok-token.ensures.reads, c.in_ok-head.ensures.few),
+pub returns-in_ok-counted-in-Some-clause-reads : goal.returns-in_ok-counted-in-Some-clause-reads
+returns-in_ok-counted-in-Some-clause-reads c =
+    let begins = rw c.in-Some.is at c.in_ok-begun.ensures.begins in
+    rw c.text_head.ensures (
+      ([], record { kept = []; added = sym (append-nil c.args.tokens.now.items); own_is = refl; from_is = c.len.ensures ∙ c.args.tokens.now.ok.0; to_is = c.len.ensures ∙ c.args.tokens.now.ok.0 }, reads_on c.args.walk.now [] c.pass_white.new.walk _ c.read_on.new.walk c.pass_white.ensures.blank (c.in_ok-counted-in-Some.ensures.reads c.pass_white.new.walk begins)),
+      omega (arith, c.pass_white.ensures.shorter, rw c.in-Some.is at c.in_ok-begun.ensures.shorter, c.in_ok-counted-in-Some.ensures.shorter),
+      omega (arith, c.pass_white.ensures.shorter, rw c.in-Some.is at c.in_ok-begun.ensures.few, c.in_ok-counted-in-Some.ensures.few),
     )
 
-pub returns-in_err-counted-clause-tells : goal.returns-in_err-counted-clause-tells
-returns-in_err-counted-clause-tells c =
-    let p = err_from_is_err_and c.from_residual-in_err-counted.result c.from_residual-in_err-counted.ensures.1 in
-    rw (p.1, p.2) (tells_after c.args.walk.now c.skip_white.new.walk [] c.in_err-counted.field-0.0 c.in_ok-token.ensures.reads c.in_err-counted.ensures.tells)
+pub returns-in_ok-head-in-None-clause-reads : goal.returns-in_ok-head-in-None-clause-reads
+returns-in_ok-head-in-None-clause-reads c =
+    let same = rw c.in-None.is at c.in_ok-begun.ensures.begins in
+    let blank = subst (λ (rest : List Mark). Reads c.args.walk.now [] rest) (sym same) c.pass_white.ensures.blank in
+    node_after c.args.walk.now c.begin_run.new.walk c.read_from_token.new.walk c.args.tokens.now.items c.read_from_token.new.tokens.items c.in_ok-head-in-None.head blank c.in_ok-head-in-None.ensures.reads
 
-pub returns-clause-reads : goal.returns-clause-reads
-returns-clause-reads c = (
-  ([], record { kept = []; added = sym (append-nil c.args.tokens.now.items); own_is = refl; from_is = c.len-count.ensures ∙ c.args.tokens.now.ok.0; to_is = c.len-count.ensures ∙ c.args.tokens.now.ok.0 }, reads_on c.args.walk.now [] c.skip_white.new.walk _ c.read_run.new.walk c.in_ok-token.ensures.reads c.in_ok-counted.ensures.reads),
-  omega (arith, reads_shorter c.args.walk.now [] c.skip_white.new.walk c.in_ok-token.ensures.reads, c.in_ok-counted.ensures.shorter),
-  omega (arith, reads_shorter c.args.walk.now [] c.skip_white.new.walk c.in_ok-token.ensures.reads, c.in_ok-counted.ensures.few),
-)
+pub returns-in_err-head-in-None-clause-tells : goal.returns-in_err-head-in-None-clause-tells
+returns-in_err-head-in-None-clause-tells c =
+    let p = err_from_is_err_and c.from_residual-in_err-head-in-None.result c.from_residual-in_err-head-in-None.ensures.1 in
+    let same = rw c.in-None.is at c.in_ok-begun.ensures.begins in
+    let blank = subst (λ (rest : List Mark). Reads c.args.walk.now [] rest) (sym same) c.pass_white.ensures.blank in
+    rw (p.1, p.2) (tells_after c.args.walk.now c.begin_run.new.walk [] c.in_err-head-in-None.field-0.0 blank c.in_err-head-in-None.ensures.tells)

@@ -4,7 +4,8 @@ use Rattle.cb_lines.specs.Marks.{bytes_of, first_line}
 use Rattle.cb_lines.specs.Lines.{with_line, StandOn}
 use Rattle.cb_tree.specs.declared.reading.Place.TheVariants.{InLine}
 use Rattle.cb_tree.specs.Reads.{ReadsRun}
-use Rattle.cb_tree.proofs.Stretches.{run_stretch, stretch_few, first_byte}
+use Rattle.cb_tree.proofs.Runs.{one_line}
+use Rattle.cb_tree.proofs.Stretches.{run_stretch, first_byte}
 use Rattle.cb_tree.proofs.stretch.pass_stretch.Goals as goal
 
 pub returns-clause-goes : goal.returns-clause-goes
@@ -20,17 +21,9 @@ returns-clause-goes c = λ ms run.
     let all = run_stretch ms c.args.place counted rest n (first_line rest) (c.plain_stretch-stretch.ensures.cut rest c.row-row.ensures.front some)
     (λ e. let no = c.if-may_be_directive.ensures.no refl e in (λ h. no.0 (sym head ∙ h), λ h. no.1 (sym head ∙ h)))
     (λ xs set. c.one_line.ensures (first_line rest) xs set) stands (c.pass_white.ensures.goes ms c.args.place counted run) in
-    subst (λ (x : List Mark). ReadsRun ms InLine c.add.new.self x) (sym c.pass_row.ensures)
+    c.pass_front.ensures.goes ms c.add.new.self
     (subst (λ (set : List ℕ). ReadsRun ms InLine set (drop n rest)) (sym (c.in_ok-add.ensures ∙ ap (λ (l : ℕ). with_line l counted) c.line.ensures)) all)
 
 pub returns-clause-few : goal.returns-clause-few
 returns-clause-few c =
-    let rest : List Mark = c.pass_white.new.walk in
-    let n : ℕ = c.plain_stretch-stretch.result.len in
-    let counted : List ℕ = c.args.counted.now in
-    let some : 0 < n = omega arith in
-    let inside = c.plain_stretch-stretch.ensures.inside some in
-    let within = c.row-row.ensures.within in
-    let shorter = c.pass_white.ensures.shorter in
-    let few = stretch_few n c.line.result rest counted some (omega arith) in
-    omega (arith, few, ap length c.in_ok-add.ensures, ap length c.pass_row.ensures)
+    omega (arith, c.pass_white.ensures.shorter, c.pass_front.ensures.shorter, ap length c.in_ok-add.ensures, one_line c.line.result c.args.counted.now)
