@@ -9,6 +9,7 @@ use crate::texts::{TOO_LONG, fault_text, not_yet_text, numbers_text};
 use cb_paths::{Bytes, NoMemory, SOURCE_BYTE_LIMIT};
 use cb_tree::{BuildFault, Tree, build};
 use std::alloc::Global;
+use std::mem;
 
 /// What a run says: the text that it writes, and the status that it then ends with.
 #[derive(Drop)]
@@ -63,7 +64,13 @@ pub(crate) fn answer_source(
         return Answer::fixed(alloc, 3, TOO_LONG);
     }
     match build(alloc, source) {
-        Ok(tree) => answer_tree(alloc, &Subject { names, tree }),
+        Ok(tree) => {
+            let subject = Subject { names, tree };
+            let answer = answer_tree(alloc, &subject);
+            // The process ends behind its one answer, and gives all memory back at once. A tree has many small pieces.
+            mem::forget(subject);
+            answer
+        }
         Err(BuildFault::Bad(fault)) => {
             let text = fault_text(alloc, fault)?;
             Ok(Answer { status: 2, text })
