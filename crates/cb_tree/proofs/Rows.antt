@@ -13,10 +13,15 @@ use Rattle.cb_tokens.specs.declared.token.PieceKind.TheVariants as kinds
 use Rattle.cb_tokens.specs.declared.first.First.TheVariants as first
 use Rattle.cb_tokens.specs.Cut.{StandsFirst}
 use Rattle.cb_tokens.specs.Plain.{is_plain}
-use Rattle.cb_tree.specs.Reads.{DirectiveGoes, DirectiveStands, GoesInRow, row_counted}
+use Rattle.cb_tokens.specs.declared.token.TokenKind.TheVariants as token
+use Rattle.cb_tree.specs.declared.node.NodeKind.{NodeKind}
+use Rattle.cb_tree.specs.declared.opening.Hash.{Hash}
+use Rattle.cb_tree.specs.Kinds.{is_hash_text}
+use Rattle.cb_tree.specs.Heads.{hash_text, hash_token, name_of, name_token}
+use Rattle.cb_tree.specs.Reads.{ReadsDirective, DirectiveGoes, DirectiveStands, GoesInRow, row_counted}
 use Rattle.cb_tree.proofs.Pieces.{some_bytes}
 use Rattle.cb_tree.proofs.Runs.{one_line}
-use Rattle.cb_tree.proofs.Directives.{directive_white, directive_token, directive_ends_line, goes_none, goes_on}
+use Rattle.cb_tree.proofs.Directives.{directive_white, directive_token, directive_ends_line, hash_start, goes_none, goes_on}
 
 -- what is known of marks on one line
 abbrev pub Once : Type 0
@@ -165,3 +170,59 @@ row_ends spaced spaced' counted counted' bytes from before after n h e stands =
 -- it has a mark more
 pub one_more : (bytes : List ℕ) (n : ℕ) → StandsFirst (drop n bytes) (first.Piece kinds.LineEnd 1) → n + 1 ≤ length bytes
 one_more bytes n h = let within : 1 ≤ length (drop n bytes) = h.1.within in omega (arith, within, length-drop n bytes)
+
+-- bytes behind others without an LF
+pub no_feed_behind : (bytes : List ℕ) (n m : ℕ) → ((k : ℕ) → k < n → is_line_feed (get_or bytes k 0) ≡ false)
+    → ((k : ℕ) → k < m → is_line_feed (get_or (drop n bytes) k 0) ≡ false) → (k : ℕ) → k < n + m → is_line_feed (get_or bytes k 0) ≡ false
+no_feed_behind bytes n m h g k l =
+    elim (cases_lt k n) [
+      | inl lt ↦ h k lt
+      | inr ge ↦ (
+          let i : n + (k - n) ≡ k = omega arith in
+          ap (λ (j : ℕ). is_line_feed (get_or bytes j 0)) (sym i) ∙ (ap is_line_feed (sym (get_or-drop n bytes (k - n) 0)) ∙ g (k - n) (omega arith))
+          )
+    ]
+
+-- white space, if there is any
+row_blank : (bytes : List ℕ) (white : ℕ) → (0 < white → StandsFirst bytes (first.Piece kinds.White white)) → GoesInRow false bytes [] [] (nat_lt 0 white) white
+row_blank bytes zero h = row_none false bytes []
+row_blank bytes (suc white) h =
+    let e : 0 + suc white ≡ suc white = omega arith in
+    let some : nat_lt 0 (suc white) ≡ true = lt-ltb 0 (suc white) (omega arith) in
+    subst (λ (spaced : Bool). GoesInRow false bytes [] [] spaced (suc white)) (sym some)
+    (subst (GoesInRow false bytes [] [] true) e (row_white false false bytes [] [] 0 (suc white) (row_none false bytes []) (h (omega arith))))
+
+-- a name behind it
+pub lead_goes : Once → (kind : NodeKind) (bytes : List ℕ) (white len : ℕ) → (0 < white → StandsFirst bytes (first.Piece kinds.White white))
+    → StandsFirst (drop white bytes) (first.Piece (kinds.Token token.Identifier) len) → take len (drop white bytes) ≡ name_of kind
+    → GoesInRow false bytes [] (name_token kind (nat_lt 0 white) ∷ []) false (white + len)
+lead_goes once kind bytes white len blank stands name =
+    row_token once false (nat_lt 0 white) bytes [] [] white len token.Identifier (name_of kind) (row_blank bytes white blank) stands (sym name)
+
+-- a # and a name behind it, on one line
+pub lead_reads : Once → (rest : List Mark) (j : TokenKind) (n : ℕ) (hash : Hash) (name : Token) (len line : ℕ)
+    → StandsFirst (bytes_of rest) (first.Piece (kinds.Token j) n) → is_hash_text (take n (bytes_of rest)) ≡ true → hash_text hash ≡ take n (bytes_of rest)
+    → n ≤ len → StandOn line (take len rest) → GoesInRow false (drop n (bytes_of rest)) [] (name ∷ []) false (len - n)
+    → ReadsDirective rest (hash_token hash ∷ name ∷ []) false (with_line line []) (drop len rest)
+lead_reads once rest j n hash name len line stands is_hash text le on goes =
+    let parts : n + (len - n) ≡ len = omega arith in
+    let on : StandOn line (take (n + (len - n)) rest) = subst (λ (i : ℕ). StandOn line (take i rest)) (sym parts) on in
+    let counted : List ℕ = with_lines (take n rest) [] in
+    let first : ReadsDirective rest (hash_token hash ∷ []) false counted (drop n rest) = hash_start rest j n hash counted (drop n rest) stands is_hash text refl refl in
+    let g = goes (drop n rest) line counted (bytes_behind n (bytes_of rest) rest refl) (stand_behind line n (len - n) rest on) in
+    let kept : hash_token hash ∷ g.kept ≡ hash_token hash ∷ name ∷ [] = ap (λ (ts : List Token). hash_token hash ∷ ts) (sym g.added) in
+    let same : with_line line counted ≡ with_line line [] =
+    ap (with_line line) (once line (take n rest) [] (some_taken n rest j stands) (stand_front line n (len - n) rest on)) ∙ again once line [] in
+    let end : drop (len - n) (drop n rest) ≡ drop len rest = behind_both n (len - n) rest ∙ ap (λ (i : ℕ). drop i rest) parts in
+    rw (sym kept, sym same, sym end) (g.goes rest (hash_token hash ∷ []) first)
+
+-- no LF stands in a #, white space and a name
+pub lead_no_feed : ((bs : List ℕ) (kind : TokenKind) (len k : ℕ) → StandsFirst bs (first.Piece (kinds.Token kind) len) → k < len → is_line_feed (get_or bs k 0) ≡ false)
+    → (j : TokenKind) (bytes : List ℕ) (n white len : ℕ) → StandsFirst bytes (first.Piece (kinds.Token j) n)
+    → ((k : ℕ) → k < white → is_line_feed (get_or (drop n bytes) k 0) ≡ false) → StandsFirst (drop white (drop n bytes)) (first.Piece (kinds.Token token.Identifier) len)
+    → (k : ℕ) → k < n + white + len → is_line_feed (get_or bytes k 0) ≡ false
+lead_no_feed law j bytes n white len hash blank name =
+    let there : StandsFirst (drop (n + white) bytes) (first.Piece (kinds.Token token.Identifier) len) =
+    subst (λ (bs : List ℕ). StandsFirst bs (first.Piece (kinds.Token token.Identifier) len)) (drop-drop white n bytes) name in
+    no_feed_behind bytes (n + white) len (no_feed_behind bytes n white (λ k l. law bytes j n k hash l) blank)
+    (λ k l. law (drop (n + white) bytes) token.Identifier len k there l)

@@ -1,21 +1,22 @@
 //! Directive lines: logical lines whose first token is `#` or `%:`.
-ghost use Rattle.std.specs.Prelude.{◌≡◌, ◌+◌, ◌<◌, ◌≤◌, ◌∷◌, ◌++◌, [], Bool, List, None, length, take, true, false, IfOk, IfErr, OnOk, MatchOption};
-ghost use Rattle.cb_lines.specs.Marks.{bytes_of};
+ghost use Rattle.std.specs.Prelude.{ℕ, ◌≡◌, ◌+◌, ◌<◌, ◌≤◌, ◌∷◌, ◌++◌, [], Bool, List, None, length, take, drop, slice_index, true, false, IfOk, IfErr, OnOk, MatchOption};
+ghost use Rattle.cb_lines.specs.Marks.{bytes_of, first_line, is_line_feed};
+ghost use Rattle.cb_lines.specs.Lines.{with_line};
 ghost use Rattle.cb_tokens.specs.Cut.{StandsFirst};
 ghost use Rattle.cb_tokens.specs.declared.first.First.{First};
 ghost use Rattle.cb_tree.specs.Kinds.{is_hash_text, kind_behind_hash};
 ghost use Rattle.cb_tokens.specs.declared.token.Token.{Token};
-ghost use Rattle.cb_tree.specs.Heads.{Adds, IsNamed, IsUnnamed, hash_token, node_with};
-ghost use Rattle.cb_tree.specs.Reads.{Reads, DirectiveGoes, HeadReads, HeadTells, Tells};
+ghost use Rattle.cb_tree.specs.Heads.{Adds, IsNamed, IsUnnamed, hash_token, name_of, name_token, node_with};
+ghost use Rattle.cb_tree.specs.Reads.{Reads, ReadsDirective, DirectiveGoes, HeadReads, HeadTells, Tells};
 
 use crate::fault::BuildFault;
 use crate::kind::kind_behind_hash;
 use crate::node::NodeKind;
 use crate::nodes::{Head, part};
-use crate::opening::{Hash, Second, hash_of, kind_ahead, pass_to_second};
+use crate::opening::{Hash, Lead, Second, hash_of, kind_ahead, lead_ahead, pass_to_second};
 use crate::reading::{Start, look_ahead, pass_ahead, pass_counted};
 use crate::row::{keep_token, pass_row};
-use cb_lines::{Lines, Walk};
+use cb_lines::{Lines, Walk, one_line};
 use cb_tokens::{PieceKind, Token, TokenKind};
 use std::alloc::Global;
 
@@ -83,6 +84,38 @@ fn read_behind(
             None => return Ok(()),
         }
     }
+}
+
+/// Reads a directive line whose lead stands in one row.
+fn read_led(
+    alloc: Global,
+    walk: &mut Walk,
+    tokens: &mut Vec<Token>,
+    hash: Hash,
+    lead: Lead,
+) -> Result<Head, BuildFault>
+    requires within { (0 < lead.len) × (lead.len ≤ length walk.old) }
+    requires no_feed { (k : ℕ) → k < lead.len → is_line_feed (slice_index (bytes_of walk.old) k) ≡ false }
+    requires named { IsNamed (name_of lead.kind) lead.kind }
+    requires reads { ReadsDirective walk.old (hash_token hash ∷ name_token lead.kind lead.spaced ∷ []) false (with_line (first_line walk.old) []) (drop lead.len walk.old) }
+    ensures reads { IfOk result (λ head. (own : List Token) × Adds tokens.old.items tokens.new.items head own × Reads walk.old (node_with own head ∷ []) walk.new) }
+    ensures shorter { OnOk result (length walk.new < length walk.old) }
+    ensures few { IfOk result (λ head. length head.counted + length walk.new ≤ length walk.old) }
+    ensures tells { IfErr result (Tells walk.old) }
+{
+    let from = tokens.len();
+    let mut counted = Lines::new(alloc);
+    counted.add(walk.line())?;
+    walk.pass_row(lead.len);
+    read_behind(alloc, walk, tokens, &mut counted, false)?;
+    Ok(Head {
+        from,
+        to: tokens.len(),
+        kind: lead.kind,
+        hash,
+        spaced: lead.spaced,
+        counted,
+    })
 }
 
 /// Reads a directive line whose name tells its kind.
@@ -203,8 +236,13 @@ pub(crate) fn read_directive(
     ensures tells { IfErr result (Tells walk.old) }
 {
     let hash = hash_of(&walk.rest()[..token.len]);
+    if let Some(lead) = lead_ahead(walk, token) {
+        one_line();
+        let head = read_led(alloc, walk, tokens, hash, lead)?;
+        return Ok(head);
+    }
     let mut counted = Lines::new(alloc);
     pass_counted(walk, token, &mut counted)?;
-    let head = read_behind_hash(alloc, walk, tokens, counted, hash)?;
-    Ok(head)
+    let behind = read_behind_hash(alloc, walk, tokens, counted, hash)?;
+    Ok(behind)
 }

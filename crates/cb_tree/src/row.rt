@@ -28,7 +28,7 @@ pub(crate) struct Reach {
 
 /// What stands next in a row.
 #[derive(Clone, Copy)]
-enum InRow {
+pub(crate) enum InRow {
     /// White space or a token, to its end.
     Plain(Ahead),
     /// A line end.
@@ -53,7 +53,7 @@ pub(crate) fn keep_token(
 }
 
 /// What stands at a place, of a row that ends at another one.
-fn next_in_row(bytes: &[u8], at: usize, end: usize) -> InRow
+pub(crate) fn next_in_row(bytes: &[u8], at: usize, end: usize) -> InRow
     requires { (at ≤ end) × (end ≤ length bytes.now) }
     ensures { IsInRow bytes.now at end result }
 {

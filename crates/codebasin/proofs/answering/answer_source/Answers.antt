@@ -12,7 +12,7 @@ returns-then-source-gt-SOURCE_BYTE_LIMIT c =
 
 pub returns-in-Ok : goal.returns-in-Ok
 returns-in-Ok c =
-    IfOk-weaker c.answer_tree.result _ _ (λ a says. sound c.in-Ok.tree a.status a.text.items c.in-Ok.ensures.nodes says) c.answer_tree.ensures
+    IfOk-weaker c.answer_tree-answer.result _ _ (λ a says. sound c.in-Ok.tree a.status a.text.items c.in-Ok.ensures.nodes says) c.answer_tree-answer.ensures
 
 pub returns-in-Err-Bad : goal.returns-in-Err-Bad
 returns-in-Err-Bad c =
