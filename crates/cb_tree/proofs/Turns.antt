@@ -1,5 +1,5 @@
 -- The ends of groups, from the last node to the first.
-use Rattle.std.proofs.Common.{◌≡◌, ℕ, ◌+◌, ◌-◌, ◌<◌, ◌==◌, false, if◌then◌else◌, List, [], ◌∷◌, length, drop, get_or, Option, Some, None, refl, ap, sym, ◌∙◌, ◌≤◌, subst, drop-cons, add-one, ne_eqb, arith}
+use Rattle.std.proofs.Common.{◌≡◌, ℕ, ◌+◌, ◌-◌, ◌<◌, ◌==◌, false, if◌then◌else◌, List, [], ◌∷◌, length, drop, map, get_or, Option, Some, None, refl, ap, sym, ◌∙◌, ◌≤◌, subst, drop-cons, add-one, ne_eqb, arith}
 use Prim.Native.Nat.{zero, suc}
 use Rattle.std.specs.Prelude.{slice_get}
 use Rattle.std.specs.Option.{option_map}
@@ -8,7 +8,7 @@ use Rattle.cb_tree.specs.Nodes.{Node}
 use Rattle.cb_tree.specs.declared.node.NodeKind.{NodeKind}
 use Rattle.cb_tree.specs.declared.node.NodeKind.TheVariants.{Text, If, Ifdef, Ifndef, Elif, Else, Endif, Define, Undef, Include, Once, Error, Other}
 use Rattle.cb_tree.specs.Groups.{next_turn, ends_from, kinds_of}
-use Rattle.cb_tree.specs.Trees.{front_of, end_by, turns_with}
+use Rattle.cb_tree.specs.Trees.{front_of, end_by, entry_of, turns_with}
 
 -- the element at a depth
 abbrev pub at : List ℕ → ℕ → Option ℕ
@@ -67,10 +67,10 @@ front_is : (turns : List ℕ) → front_of turns ≡ at turns 0
 front_is [] = refl
 front_is (x ∷ xs) = refl
 
--- the ends of the groups that the nodes behind a place begin, and the turns there
-pub record Back (kinds : List NodeKind) (left : ℕ) (ends : List (Option ℕ)) (turns : List ℕ) : Type 0 where
+-- the entries of the nodes behind a place, and the turns there
+pub record Back (kinds : List NodeKind) (left : ℕ) (ends : List ℕ) (turns : List ℕ) : Type 0 where
   pub within : left ≤ length kinds
-  pub ends_are : ends ≡ ends_from (left + 1) (drop left kinds)
+  pub ends_are : ends ≡ map entry_of (ends_from (left + 1) (drop left kinds))
   pub turns_are : AreTurns (drop left kinds) (left + 1) turns
 
 pub back_start : (kinds : List NodeKind) (left : ℕ) → left ≡ length kinds → Back kinds left [] []
@@ -82,8 +82,8 @@ back_start kinds left h =
       turns_are = rw e (turns_none (left + 1));
     }
 
-back_by : (kinds : List NodeKind) (m : ℕ) (kind : NodeKind) (ends : List (Option ℕ)) (turns : List ℕ) → Back kinds (suc m) ends turns
-    → drop m kinds ≡ kind ∷ drop (suc m) kinds → Back kinds m (end_by kind turns ∷ ends) (turns_with kind (suc m) turns)
+back_by : (kinds : List NodeKind) (m : ℕ) (kind : NodeKind) (ends : List ℕ) (turns : List ℕ) → Back kinds (suc m) ends turns
+    → drop m kinds ≡ kind ∷ drop (suc m) kinds → Back kinds m (entry_of (end_by kind turns) ∷ ends) (turns_with kind (suc m) turns)
 back_by kinds m kind ends turns b e =
     let first : front_of turns ≡ next_turn (drop (suc m) kinds) (suc m + 1) 0 = front_is turns ∙ sym (b.turns_are.each 0) in
     record {
@@ -92,14 +92,14 @@ back_by kinds m kind ends turns b e =
       turns_are = rw (e, add-one m) (turns_more kind (drop (suc m) kinds) (suc m) turns b.turns_are);
     }
 
-pub back_more : (kinds : List NodeKind) (left m : ℕ) (kind : NodeKind) (ends : List (Option ℕ)) (turns : List ℕ) → Back kinds left ends turns
-    → left ≡ m + 1 → kind ≡ get_or kinds m kind → Back kinds m (end_by kind turns ∷ ends) (turns_with kind left turns)
+pub back_more : (kinds : List NodeKind) (left m : ℕ) (kind : NodeKind) (ends : List ℕ) (turns : List ℕ) → Back kinds left ends turns
+    → left ≡ m + 1 → kind ≡ get_or kinds m kind → Back kinds m (entry_of (end_by kind turns) ∷ ends) (turns_with kind left turns)
 back_more kinds left m kind ends turns b e kind_is =
     let l : left ≡ suc m = e ∙ add-one m in
     let within : m < length kinds = omega (arith, b.within) in
     let d : drop m kinds ≡ kind ∷ drop (suc m) kinds = drop-cons kinds m kind within ∙ ap (λ x. x ∷ drop (suc m) kinds) (sym kind_is) in
     let P : ℕ → Type 0 = λ x. Back kinds x ends turns in
-    let Q : ℕ → Type 0 = λ x. Back kinds m (end_by kind turns ∷ ends) (turns_with kind x turns) in
+    let Q : ℕ → Type 0 = λ x. Back kinds m (entry_of (end_by kind turns) ∷ ends) (turns_with kind x turns) in
     subst Q (sym l) (back_by kinds m kind ends turns (subst P l b) d)
 
 -- the kind at a place

@@ -1,7 +1,7 @@
 //! Where the groups of if sections end.
-ghost use Rattle.std.specs.Prelude.{◌≡◌, ◌≤◌, length, reverse, IfOk, OnOk};
+ghost use Rattle.std.specs.Prelude.{◌≡◌, ◌≤◌, length, map, reverse, IfOk, OnOk};
 ghost use Rattle.cb_tree.specs.Groups.{kinds_of, ends_from};
-ghost use Rattle.cb_tree.specs.Trees.{end_by, turns_with};
+ghost use Rattle.cb_tree.specs.Trees.{end_by, entry_of, turns_with};
 
 use crate::node::NodeKind;
 use crate::nodes::Nodes;
@@ -35,19 +35,19 @@ fn step_back(turns: &mut Vec<u32>, kind: NodeKind, node: u32) -> Result<Option<u
     }
 }
 
-/// The end of the group that each node begins.
-pub(crate) fn group_ends(alloc: Global, nodes: &Nodes) -> Result<Vec<Option<u32>>, NoMemory>
+/// The end of the group that each node begins, 0 where it begins none.
+pub(crate) fn group_ends(alloc: Global, nodes: &Nodes) -> Result<Vec<u32>, NoMemory>
     requires { length nodes.now ≤ 4194304 }
-    ensures { IfOk result (λ ends. ends.items ≡ ends_from 1 (kinds_of nodes.now)) }
+    ensures { IfOk result (λ ends. ends.items ≡ map entry_of (ends_from 1 (kinds_of nodes.now))) }
 {
     let mut turns = Vec::new(alloc);
-    let mut ends = Vec::new(alloc);
     let mut left = nodes.len();
+    let mut ends = Vec::with_capacity(alloc, left)?;
     'nodes: while left > 0 {
         let node = left as u32;
         left -= 1;
         let end = step_back(&mut turns, nodes.kind(left), node)?;
-        ends.push(end)?;
+        ends.push(end.unwrap_or(0))?;
     }
     ends.reverse();
     Ok(ends)

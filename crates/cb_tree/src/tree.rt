@@ -1,5 +1,5 @@
 //! The tree of a source.
-ghost use Rattle.std.specs.Prelude.{◌≡◌, ◌<◌, ◌≤◌, ◌-◌, length, slice_get, Some, ◌↔◌, IsTrue, IsSome, IfSome, true};
+ghost use Rattle.std.specs.Prelude.{◌≡◌, ◌<◌, ◌≤◌, ◌-◌, length, slice_get, Some, ◌↔◌, IsTrue, IsSome, IfSome, MatchOption, true};
 ghost use Rattle.std.specs.Option.{option_map};
 ghost use Rattle.std.specs.List.{flat_map};
 ghost use Rattle.cb_lines.specs.Lines.{AreMaximal, span_lines};
@@ -21,7 +21,7 @@ use std::marker::Model;
 pub struct Tree {
     pub(crate) nodes: Nodes,
     pub(crate) total: u64,
-    pub(crate) ends: Vec<Option<u32>>,
+    pub(crate) ends: Vec<u32>,
     pub(crate) parts: Parts,
 }
 
@@ -45,6 +45,13 @@ pub(crate) fn first_line(spans: &[Span]) -> u32
     ensures { result ≡ first_of (flat_map span_lines spans.now) }
 {
     if spans.is_empty() { 0 } else { spans[0].first }
+}
+
+/// The end of a group by its entry in the table of ends, where 0 stands for none.
+fn end_by_entry(entry: u32) -> Option<u32>
+    ensures { MatchOption result (entry ≡ 0) (λ end. (0 < end) × (entry ≡ end)) }
+{
+    if entry == 0 { None } else { Some(entry) }
 }
 
 impl Tree {
@@ -85,7 +92,7 @@ impl Tree {
         ensures behind { IfSome result (λ end. (node < end) × (end ≤ length self.now)) }
     {
         let ends = self.ends.as_slice();
-        ends[node as usize - 1]
+        end_by_entry(ends[node as usize - 1])
     }
 
     /// The nodes in order, nested as their if sections. Read from front to back they are all nodes, each once and in its role.
