@@ -1,20 +1,22 @@
 -- The nodes of a sound source, placed one after another.
 use Rattle.std.proofs.Common.{◌≡◌, ℕ, ◌+◌, ◌<◌, ◌≤◌, ◌==◌, Bool, true, false, if◌then◌else◌, List, [], ◌∷◌, ◌++◌, length, take, drop, get_or, None, Some, Result, Ok, Err, refl, ap, sym, subst, ◌∙◌, add-one, drop-cons, arith}
 use Prim.Native.Nat.{zero, suc}
-use Rattle.std.specs.Prelude.{slice_get}
+use Rattle.std.specs.Prelude.{slice_get, reverse}
 use Rattle.std.specs.Option.{option_map}
 use Rattle.std.proofs.lemmas.List.{take_more, take_all, drop_all, map-append, length-map, length-take-le}
 use Rattle.cb_tree.specs.declared.fault.BadSource.{BadSource}
 use Rattle.cb_tree.specs.declared.node.NodeKind.{NodeKind}
 use Rattle.cb_tree.specs.declared.node.NodeKind.TheVariants.{Text, If, Ifdef, Ifndef, Elif, Else, Endif, Define, Undef, Include, Once, Error, Other}
 use Rattle.cb_tree.specs.declared.sections.OpenSection.{OpenSection}
+use Rattle.cb_tree.specs.declared.part.Part.{Part}
+use Rattle.cb_tree.specs.declared.part.Group.{Group}
 use Rattle.cb_tree.specs.declared.nesting.Frame.{Frame}
 use Rattle.cb_tree.specs.declared.nesting.Nesting.{Nesting}
 use Rattle.cb_tree.specs.Nodes.{Node, node_line}
 use Rattle.cb_tree.specs.Sections.{sections_after, fault_at_end, fault_or, first_fault}
 use Rattle.cb_tree.specs.Groups.{kinds_of}
 use Rattle.cb_tree.specs.Nesting.{Placed, role_of, places_from, places_of}
-use Rattle.cb_tree.specs.Frames.{MayStand, depth_after, IsPlaced, nested_places, frames_places}
+use Rattle.cb_tree.specs.Frames.{MayStand, depth_after, IsPlaced, nested_places, stacked_places, AreStacked}
 
 -- what a step over sections says of their number
 pub record Stands (kind : NodeKind) (before after : List OpenSection) : Type 0 where
@@ -102,13 +104,15 @@ pub record Nested (nodes : List Node) (i : ℕ) (nesting : Nesting) : Type 0 whe
   pub sections : List OpenSection
   pub depth : length sections ≡ length nesting.frames.items
   pub places : nested_places nesting ≡ places_from 1 (kinds_of (take i nodes))
+  pub stacked : AreStacked nesting
   pub no_fault : first_fault (drop i nodes) sections ≡ None
 
-pub nested_none : (nodes : List Node) (nesting : Nesting) → nesting.frames.items ≡ [] → nesting.parts ≡ [] → first_fault nodes [] ≡ None → Nested nodes 0 nesting
+pub nested_none : (nodes : List Node) (nesting : Nesting) → nesting.frames.items ≡ [] → nesting.parts.items ≡ [] → first_fault nodes [] ≡ None → Nested nodes 0 nesting
 nested_none nodes nesting e f h = record {
   sections = [];
   depth = rw e refl;
   places = rw (e, f) refl;
+  stacked = rw e tt;
   no_fault = h;
 }
 
@@ -146,6 +150,7 @@ node_placed nodes i n nesting new h e a p =
           ∙ (ap (λ (l : List Placed). l ++ record { role = role_of n.kind; node = i + 1 } ∷ []) a.places
           ∙ (ap (λ x. places_from 1 (kinds_of (take i nodes)) ++ record { role = role_of n.kind; node = x } ∷ []) (sym number)
           ∙ (sym (places-push 1 (kinds_of (take i nodes)) n.kind) ∙ ap (places_from 1) (sym kinds))));
+      stacked = p.stacked;
       no_fault = g.no_fault;
     }
 
@@ -159,16 +164,13 @@ none_open : (sections : List OpenSection) → fault_at_end sections ≡ None →
 none_open [] h = refl
 none_open (s ∷ ss) h = absurd (cc)
 
-none_placed : (frames : List Frame) → length frames ≡ 0 → frames_places frames ≡ []
-none_placed [] h = refl
-none_placed (f ∷ fs) h = absurd (omega arith)
-
-no_frames : (nesting : Nesting) → length nesting.frames.items ≡ 0 → nested_places nesting ≡ places_of nesting.parts
-no_frames nesting h = ap (λ (l : List Placed). l ++ places_of nesting.parts) (none_placed nesting.frames.items h)
+none_placed : (frames : List Frame) (parts : List Part) (groups : List Group) → length frames ≡ 0 → stacked_places (reverse frames) parts groups ≡ places_of parts
+none_placed [] parts groups h = refl
+none_placed (f ∷ fs) parts groups h = absurd (omega arith)
 
 pub nested_all : (nodes : List Node) (i : ℕ) (nesting : Nesting) → length nodes ≤ i → Nested nodes i nesting
-    → places_of nesting.parts ≡ places_from 1 (kinds_of nodes)
+    → places_of nesting.parts.items ≡ places_from 1 (kinds_of nodes)
 nested_all nodes i nesting h a =
     let e : fault_at_end a.sections ≡ None = ap (λ (l : List Node). first_fault l a.sections) (sym (drop_all i nodes h)) ∙ a.no_fault in
-    sym (no_frames nesting (sym a.depth ∙ none_open a.sections e))
+    sym (none_placed nesting.frames.items nesting.parts.items nesting.groups.items (sym a.depth ∙ none_open a.sections e))
     ∙ (a.places ∙ ap (λ (l : List Node). places_from 1 (kinds_of l)) (take_all i nodes h))

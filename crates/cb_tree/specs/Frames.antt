@@ -1,7 +1,9 @@
 -- The nodes of a source up to a place. No public clause names these words.
-use Rattle.std.specs.Prelude.{◌≡◌, ℕ, ◌+◌, ◌-◌, ◌<◌, List, [], ◌∷◌, ◌++◌, length}
+use Rattle.std.specs.Prelude.{◌≡◌, ℕ, ◌+◌, ◌-◌, ◌<◌, ◌≤◌, List, [], ◌∷◌, ◌++◌, length, take, drop, reverse}
 use Rattle.cb_tree.specs.declared.role.Role.{Role}
 use Rattle.cb_tree.specs.declared.role.Role.TheVariants as role
+use Rattle.cb_tree.specs.declared.part.Part.{Part}
+use Rattle.cb_tree.specs.declared.part.Group.{Group}
 use Rattle.cb_tree.specs.declared.nesting.Frame.{Frame}
 use Rattle.cb_tree.specs.declared.nesting.Nesting.{Nesting}
 use Rattle.cb_tree.specs.Nesting.{Placed, GroupPlaces, group_places, inner_places, places_of}
@@ -11,23 +13,40 @@ abbrev pub turned_places : List GroupPlaces → ℕ → List Placed
 turned_places [] head = record { role = role.Opens; node = head } ∷ []
 turned_places (g ∷ gs) head = group_places (g ∷ gs) ++ record { role = role.Turns; node = head } ∷ []
 
--- the nodes of an open section, and those before it in its group
-abbrev pub frame_places : Frame → List Placed
-frame_places f = places_of f.before ++ turned_places (inner_places f.groups) f.head
+-- the group of an open section that ends where these parts lie on the stack
+abbrev pub group_ended : Frame → List Part → GroupPlaces
+group_ended f parts = record { head = f.head; inner = places_of (drop f.parts parts) }
 
--- the nodes of the open sections
-abbrev pub frames_places : List Frame → List Placed
-frames_places [] = []
-frames_places (f ∷ fs) = frame_places f ++ frames_places fs
+-- the nodes so far, where these sections are open, the innermost first, and these parts and groups lie on the stacks
+abbrev pub stacked_places : List Frame → List Part → List Group → List Placed
+stacked_places [] parts groups = places_of parts
+stacked_places (f ∷ fs) parts groups =
+    stacked_places fs (take f.parts parts) (take f.groups groups) ++ (turned_places (inner_places (drop f.groups groups)) f.head ++ places_of (drop f.parts parts))
+
+-- an open section, the innermost first, counts no more on the stacks than the one within it, and the innermost no more than so many parts and groups
+abbrev pub AreWithin : List Frame → ℕ → ℕ → Type 0
+AreWithin [] parts groups = Unit {0}
+AreWithin (f ∷ fs) parts groups = ((f.parts ≤ parts) × (f.groups ≤ groups)) × AreWithin fs f.parts f.groups
 
 -- all nodes so far
 abbrev pub nested_places : Nesting → List Placed
-nested_places n = frames_places n.frames.items ++ places_of n.parts
+nested_places n = stacked_places (reverse n.frames.items) n.parts.items n.groups.items
+
+-- what the open sections count lies on the stacks
+abbrev pub AreStacked : Nesting → Type 0
+AreStacked n = AreWithin (reverse n.frames.items) (length n.parts.items) (length n.groups.items)
+
+-- more is put on a stack, which is read as these
+pub record Puts {X Y : Type 0} (read : List X → List Y) (old : List X) (values : List Y) (new : List X) : Type 0 where
+  pub more : List X
+  pub reads : read more ≡ values
+  pub pushed : new ≡ old ++ more
 
 -- one more node is placed, and so many sections fewer and then more are open
 pub record Places (old : Nesting) (role : Role) (node less more : ℕ) (new : Nesting) : Type 0 where
   pub places : nested_places new ≡ nested_places old ++ record { role = role; node = node } ∷ []
   pub depth : length new.frames.items + less ≡ length old.frames.items + more
+  pub stacked : AreStacked new
 
 -- a node of the role may stand where so many sections are open
 abbrev pub MayStand : Role → ℕ → Type 0
@@ -47,3 +66,4 @@ depth_after role.Closes depth = depth - 1
 pub record IsPlaced (old : Nesting) (role : Role) (node : ℕ) (new : Nesting) : Type 0 where
   pub places : nested_places new ≡ nested_places old ++ record { role = role; node = node } ∷ []
   pub depth : length new.frames.items ≡ depth_after role (length old.frames.items)
+  pub stacked : AreStacked new

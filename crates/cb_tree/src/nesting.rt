@@ -1,7 +1,7 @@
 //! From the nodes of a sound source to its parts.
-ghost use Rattle.std.specs.Prelude.{◌≡◌, ◌<◌, ◌≤◌, ◌∷◌, ◌++◌, [], length, None, IfOk, OnOk};
+ghost use Rattle.std.specs.Prelude.{◌≡◌, ◌<◌, ◌≤◌, ◌∷◌, ◌++◌, [], length, take, drop, None, IfOk, OnOk};
 ghost use Rattle.cb_tree.specs.Nesting.{places_of, places_from, section_places, inner_places};
-ghost use Rattle.cb_tree.specs.Frames.{Places, MayStand, IsPlaced};
+ghost use Rattle.cb_tree.specs.Frames.{Puts, group_ended, AreStacked, Places, MayStand, IsPlaced};
 ghost use Rattle.cb_tree.specs.Groups.{kinds_of};
 ghost use Rattle.cb_tree.specs.Sections.{first_fault};
 
@@ -11,98 +11,108 @@ use crate::role::{Role, find_role};
 use cb_paths::NoMemory;
 use sqlite_items::Items;
 use std::alloc::Global;
-use std::mem;
 
-/// An empty list with room for two: more parts or groups than these are rare, and so are fewer.
-fn with_room<T>(alloc: Global) -> Result<Items<T>, NoMemory>
-    ensures { IfOk result (λ items. items ≡ []) }
+/// Cuts what lies on a stack from a place on off it, into exactly the room that it needs.
+fn cut_off<T>(stack: &mut Vec<T>, at: usize) -> Result<Items<T>, NoMemory>
+    requires { at ≤ length stack.old.items }
+    ensures rest { OnOk result (stack.new.items ≡ take at stack.old.items) }
+    ensures top { IfOk result (λ top. top ≡ drop at stack.old.items) }
 {
-    let items = Vec::with_capacity(alloc, 2)?;
-    Ok(Items::from_vec(items))
+    let top = stack.split_off(at)?;
+    Ok(Items::from_vec(top))
 }
 
-/// Adds a plain node to parts.
-fn push_plain(parts: &mut Parts, node: u32) -> Result<(), NoMemory>
-    ensures { OnOk result (places_of parts.new ≡ places_of parts.old ++ record { role = Role.Within; node = node } ∷ []) }
+/// Puts a plain node on the stack of parts.
+fn push_plain(parts: &mut Vec<Part>, node: u32) -> Result<(), NoMemory>
+    ensures { OnOk result (Puts places_of parts.old.items (record { role = Role.Within; node = node } ∷ []) parts.new.items) }
 {
     parts.push(Part::Plain(node))?;
     Ok(())
 }
 
-/// Adds a section to parts.
-fn push_section(parts: &mut Parts, groups: Groups, end: u32) -> Result<(), NoMemory>
-    ensures { OnOk result (places_of parts.new ≡ places_of parts.old ++ section_places groups end) }
+/// Puts a section on the stack of parts.
+fn push_section(parts: &mut Vec<Part>, groups: Groups, end: u32) -> Result<(), NoMemory>
+    ensures { OnOk result (Puts places_of parts.old.items (section_places groups end) parts.new.items) }
 {
     parts.push(Part::Section(Section { groups, end }))?;
     Ok(())
 }
 
-/// Adds a group to those of a section.
-fn push_group(groups: &mut Groups, head: u32, parts: Parts) -> Result<(), NoMemory>
-    ensures { OnOk result (inner_places groups.new ≡ inner_places groups.old ++ record { head = head; inner = places_of parts } ∷ []) }
+/// Puts a group on the stack of groups.
+fn push_group(groups: &mut Vec<Group>, head: u32, parts: Parts) -> Result<(), NoMemory>
+    ensures { OnOk result (Puts inner_places groups.old.items (record { head = head; inner = places_of parts } ∷ []) groups.new.items) }
 {
     groups.push(Group { head, parts })?;
     Ok(())
 }
 
 /// An if section that is open.
-#[derive(Drop)]
+#[derive(Clone, Copy)]
 pub(crate) struct Frame {
-    /// The parts before the section, of the group that it stands in.
-    pub(crate) before: Parts,
-    /// The groups of the section that have ended.
-    pub(crate) groups: Groups,
-    /// The directive that begins the group that has not.
+    /// How many parts lay on the stack when the group began that has not ended.
+    pub(crate) parts: usize,
+    /// How many groups lay on the stack when the section began.
+    pub(crate) groups: usize,
+    /// The directive that begins that group.
     pub(crate) head: u32,
 }
 
-/// The nodes of a source up to a place: the sections that are open there, and the parts of the innermost group.
+/// The nodes of a source up to a place: the sections that are open there, and the stacks that these share.
 #[derive(Drop)]
 pub(crate) struct Nesting {
     /// The open sections, the innermost last.
     pub(crate) frames: Vec<Frame>,
-    /// The parts since the last directive of the innermost one.
-    pub(crate) parts: Parts,
+    /// The parts outside of all sections, and then those of each group that has not ended.
+    pub(crate) parts: Vec<Part>,
+    /// The groups that have ended of each open section.
+    pub(crate) groups: Vec<Group>,
+}
+
+/// Ends the group of the innermost section that has not ended.
+fn end_group(parts: &mut Vec<Part>, groups: &mut Vec<Group>, frame: Frame) -> Result<(), NoMemory>
+    requires { frame.parts ≤ length parts.old.items }
+    ensures parts { OnOk result (parts.new.items ≡ take frame.parts parts.old.items) }
+    ensures groups { OnOk result (Puts inner_places groups.old.items (group_ended frame parts.old.items ∷ []) groups.new.items) }
+{
+    let inner = cut_off(parts, frame.parts)?;
+    push_group(groups, frame.head, inner)
 }
 
 /// Places a node that stands within a group.
 fn stay(nesting: &mut Nesting, node: u32) -> Result<(), NoMemory>
+    requires { AreStacked nesting.old }
     ensures { OnOk result (Places nesting.old Role.Within node 0 0 nesting.new) }
 {
-    push_plain(&mut nesting.parts, node)
+    push_plain(&mut nesting.parts, node)?;
+    Ok(())
 }
 
 /// Places a node that opens a section.
-fn open_section(alloc: Global, nesting: &mut Nesting, node: u32) -> Result<(), NoMemory>
+fn open_section(nesting: &mut Nesting, node: u32) -> Result<(), NoMemory>
+    requires { AreStacked nesting.old }
     ensures { OnOk result (Places nesting.old Role.Opens node 0 1 nesting.new) }
 {
-    let before = mem::replace(&mut nesting.parts, with_room(alloc)?);
     nesting.frames.push(Frame {
-        before,
-        groups: with_room(alloc)?,
+        parts: nesting.parts.len(),
+        groups: nesting.groups.len(),
         head: node,
     })?;
     Ok(())
 }
 
 /// Places a node that begins a further group of the innermost section.
-fn turn_section(alloc: Global, nesting: &mut Nesting, node: u32) -> Result<(), NoMemory>
-    requires { 0 < length nesting.old.frames.items }
+fn turn_section(nesting: &mut Nesting, node: u32) -> Result<(), NoMemory>
+    requires stacked { AreStacked nesting.old }
+    requires open_one { 0 < length nesting.old.frames.items }
     ensures { OnOk result (Places nesting.old Role.Turns node 0 0 nesting.new) }
 {
-    let parts = mem::replace(&mut nesting.parts, with_room(alloc)?);
     let Some(frame) = nesting.frames.pop() else {
         unreachable!()
     };
-    let Frame {
-        before,
-        mut groups,
-        head,
-    } = frame;
-    push_group(&mut groups, head, parts)?;
+    end_group(&mut nesting.parts, &mut nesting.groups, frame)?;
     nesting.frames.push(Frame {
-        before,
-        groups,
+        parts: frame.parts,
+        groups: frame.groups,
         head: node,
     })?;
     Ok(())
@@ -110,32 +120,29 @@ fn turn_section(alloc: Global, nesting: &mut Nesting, node: u32) -> Result<(), N
 
 /// Places a node that closes the innermost section.
 fn close_section(nesting: &mut Nesting, node: u32) -> Result<(), NoMemory>
-    requires { 0 < length nesting.old.frames.items }
+    requires stacked { AreStacked nesting.old }
+    requires open_one { 0 < length nesting.old.frames.items }
     ensures { OnOk result (Places nesting.old Role.Closes node 1 0 nesting.new) }
 {
     let Some(frame) = nesting.frames.pop() else {
         unreachable!()
     };
-    let Frame {
-        before,
-        mut groups,
-        head,
-    } = frame;
-    let parts = mem::replace(&mut nesting.parts, before);
-    push_group(&mut groups, head, parts)?;
+    end_group(&mut nesting.parts, &mut nesting.groups, frame)?;
+    let groups = cut_off(&mut nesting.groups, frame.groups)?;
     push_section(&mut nesting.parts, groups, node)?;
     Ok(())
 }
 
 /// Places a node in its role.
-fn place(alloc: Global, nesting: &mut Nesting, role: Role, node: u32) -> Result<(), NoMemory>
-    requires { MayStand role (length nesting.old.frames.items) }
+fn place(nesting: &mut Nesting, role: Role, node: u32) -> Result<(), NoMemory>
+    requires stacked { AreStacked nesting.old }
+    requires may { MayStand role (length nesting.old.frames.items) }
     ensures { OnOk result (IsPlaced nesting.old role node nesting.new) }
 {
     match role {
         Role::Within => stay(nesting, node),
-        Role::Opens => open_section(alloc, nesting, node),
-        Role::Turns => turn_section(alloc, nesting, node),
+        Role::Opens => open_section(nesting, node),
+        Role::Turns => turn_section(nesting, node),
         Role::Closes => close_section(nesting, node),
     }
 }
@@ -148,11 +155,11 @@ pub(crate) fn nest(alloc: Global, nodes: &Nodes) -> Result<Parts, NoMemory>
 {
     let mut nesting = Nesting {
         frames: Vec::new(alloc),
-        parts: Items::new(alloc),
+        parts: Vec::new(alloc),
+        groups: Vec::new(alloc),
     };
     for i in 0..nodes.len() {
-        place(alloc, &mut nesting, find_role(nodes.kind(i)), i as u32 + 1)?;
+        place(&mut nesting, find_role(nodes.kind(i)), i as u32 + 1)?;
     }
-    let Nesting { frames: _, parts } = nesting;
-    Ok(parts)
+    cut_off(&mut nesting.parts, 0)
 }

@@ -1,4 +1,4 @@
-use Rattle.std.proofs.Common.{◌≡◌, [], ◌∷◌, false, refl, subst, ◌∙◌}
+use Rattle.std.proofs.Common.{[], ◌∷◌, false, refl, subst, ◌∙◌}
 use Rattle.std.proofs.lemmas.Result.{err_from_is_err_and}
 use Rattle.cb_tokens.specs.declared.token.TokenKind.TheVariants as token
 use Rattle.cb_tree.specs.Nodes.{Node}

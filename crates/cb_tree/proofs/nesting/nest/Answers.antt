@@ -7,4 +7,7 @@ loop-i-preserved c =
     (rw c.find_role.ensures at c.in_ok-place.ensures)
 
 pub place-requires : goal.place-requires
-place-requires c = rw c.find_role.ensures (may_stand c.args.nodes.now c.loop-i.i c.kind.result c.loop-i.nesting c.kind.ensures c.loop-i.invariant)
+place-requires c = record {
+  stacked = c.loop-i.invariant.stacked;
+  may = rw c.find_role.ensures (may_stand c.args.nodes.now c.loop-i.i c.kind.result c.loop-i.nesting c.kind.ensures c.loop-i.invariant);
+}

@@ -1,4 +1,4 @@
-use Rattle.std.proofs.Common.{◌≡◌, ◌+◌, ◌-◌, ◌<◌, ℕ, drop, ap, sym, ◌∙◌, arith}
+use Rattle.std.proofs.Common.{◌≡◌, ◌+◌, ◌-◌, ℕ, drop, ap, sym, ◌∙◌, arith}
 use Rattle.cb_lines.specs.Marks.{bytes_of, is_line_feed}
 use Rattle.cb_tree.proofs.Rows.{front_byte, lead_goes, lead_no_feed}
 use Rattle.cb_tree.proofs.opening.lead_ahead.Goals as goal
