@@ -161,5 +161,11 @@ pub(crate) fn nest(alloc: Global, nodes: &Nodes) -> Result<Parts, NoMemory>
     for i in 0..nodes.len() {
         place(&mut nesting, find_role(nodes.kind(i)), i as u32 + 1)?;
     }
-    cut_off(&mut nesting.parts, 0)
+    let Nesting {
+        frames: _,
+        mut parts,
+        groups: _,
+    } = nesting;
+    parts.shrink_to_fit();
+    Ok(Items::from_vec(parts))
 }
