@@ -1,5 +1,5 @@
 //! Directive lines: logical lines whose first token is `#` or `%:`.
-ghost use Rattle.std.specs.Prelude.{ℕ, ◌≡◌, ◌+◌, ◌<◌, ◌≤◌, ◌∷◌, ◌++◌, [], Bool, List, None, length, take, drop, slice_index, true, false, IfOk, IfErr, OnOk, MatchOption};
+ghost use Rattle.std.specs.Prelude.{ℕ, ◌≡◌, ◌+◌, ◌^◌, ◌<◌, ◌≤◌, ◌∷◌, ◌++◌, [], Bool, List, None, length, take, drop, slice_index, true, false, IfOk, IfErr, OnOk, MatchOption};
 ghost use Rattle.cb_lines.specs.Marks.{bytes_of, first_line, is_line_feed};
 ghost use Rattle.cb_lines.specs.Lines.{with_line};
 ghost use Rattle.cb_tokens.specs.Cut.{StandsFirst};
@@ -31,6 +31,7 @@ fn pass_piece(
     ensures goes { IfOk result (λ next. DirectiveGoes spaced counted.old walk.old tokens.old.items tokens.new.items next counted.new walk.new) }
     ensures shorter { IfOk result (λ next. MatchOption next (length walk.new ≤ length walk.old) (λ _. length walk.new < length walk.old)) }
     ensures few { OnOk result (length counted.new + length walk.new ≤ length counted.old + length walk.old) }
+    ensures few_tokens { OnOk result (length tokens.new.items + length walk.new ≤ length tokens.old.items + length walk.old) }
     ensures tells { IfErr result (Tells walk.old) }
 {
     match look_ahead(walk)? {
@@ -72,6 +73,7 @@ fn read_behind(
     ensures goes { OnOk result (DirectiveGoes spaced counted.old walk.old tokens.old.items tokens.new.items None counted.new walk.new) }
     ensures shorter { OnOk result (length walk.new ≤ length walk.old) }
     ensures few { OnOk result (length counted.new + length walk.new ≤ length counted.old + length walk.old) }
+    ensures few_tokens { OnOk result (length tokens.new.items + length walk.new ≤ length tokens.old.items + length walk.old) }
     ensures tells { IfErr result (λ fault. (own : List Token) → HeadTells own spaced counted.old walk.old fault) }
 {
     let mut spaced = spaced;
@@ -94,6 +96,7 @@ fn read_led(
     hash: Hash,
     lead: Lead,
 ) -> Result<Head, BuildFault>
+    requires room { length tokens.old.items + length walk.old < 2 ^ 32 }
     requires within { (0 < lead.len) × (lead.len ≤ length walk.old) }
     requires no_feed { (k : ℕ) → k < lead.len → is_line_feed (slice_index (bytes_of walk.old) k) ≡ false }
     requires named { IsNamed (name_of lead.kind) lead.kind }
@@ -101,16 +104,17 @@ fn read_led(
     ensures reads { IfOk result (λ head. (own : List Token) × Adds tokens.old.items tokens.new.items head own × Reads walk.old (node_with own head ∷ []) walk.new) }
     ensures shorter { OnOk result (length walk.new < length walk.old) }
     ensures few { IfOk result (λ head. length head.counted + length walk.new ≤ length walk.old) }
+    ensures few_tokens { OnOk result (length tokens.new.items + length walk.new ≤ length tokens.old.items + length walk.old) }
     ensures tells { IfErr result (Tells walk.old) }
 {
-    let from = tokens.len();
+    let from = tokens.len() as u32;
     let mut counted = Lines::new(alloc);
     counted.add(walk.line())?;
     walk.pass_row(lead.len);
     read_behind(alloc, walk, tokens, &mut counted, false)?;
     Ok(Head {
         from,
-        to: tokens.len(),
+        to: tokens.len() as u32,
         kind: lead.kind,
         hash,
         spaced: lead.spaced,
@@ -128,21 +132,23 @@ fn read_named(
     name: Second,
     kind: NodeKind,
 ) -> Result<Head, BuildFault>
+    requires room { length tokens.old.items + length walk.old < 2 ^ 32 }
     requires stands { StandsFirst (bytes_of walk.old) (First.Piece (PieceKind.Token name.token.kind) name.token.len) }
     requires identifier { name.token.kind ≡ TokenKind.Identifier }
     requires named { IsNamed (take name.token.len (bytes_of walk.old)) kind }
     ensures reads { IfOk result (HeadReads (hash_token hash ∷ []) name.spaced counted walk.old tokens.old.items tokens.new.items walk.new) }
     ensures shorter { OnOk result (length walk.new ≤ length walk.old) }
     ensures few { IfOk result (λ head. length head.counted + length walk.new ≤ length counted + length walk.old) }
+    ensures few_tokens { OnOk result (length tokens.new.items + length walk.new ≤ length tokens.old.items + length walk.old) }
     ensures tells { IfErr result (HeadTells (hash_token hash ∷ []) name.spaced counted walk.old) }
 {
-    let from = tokens.len();
+    let from = tokens.len() as u32;
     let mut counted = counted;
     pass_counted(walk, name.token, &mut counted)?;
     read_behind(alloc, walk, tokens, &mut counted, false)?;
     Ok(Head {
         from,
-        to: tokens.len(),
+        to: tokens.len() as u32,
         kind,
         hash,
         spaced: name.spaced,
@@ -159,22 +165,25 @@ fn read_other(
     hash: Hash,
     second: Second,
 ) -> Result<Head, BuildFault>
+    requires room { length tokens.old.items + length walk.old < 2 ^ 32 }
     requires stands { StandsFirst (bytes_of walk.old) (First.Piece (PieceKind.Token second.token.kind) second.token.len) }
     requires unnamed { (spaced : Bool) (more : List Token)
         → IsUnnamed (kind_behind_hash (record { kind = second.token.kind; spaced = spaced; text = take second.token.len (bytes_of walk.old) } ∷ more)) }
     ensures reads { IfOk result (HeadReads (hash_token hash ∷ []) second.spaced counted walk.old tokens.old.items tokens.new.items walk.new) }
     ensures shorter { OnOk result (length walk.new ≤ length walk.old) }
     ensures few { IfOk result (λ head. length head.counted + length walk.new ≤ length counted + length walk.old) }
+    ensures few_tokens { OnOk result (length tokens.new.items + length walk.new ≤ length tokens.old.items + length walk.old) }
     ensures tells { IfErr result (HeadTells (hash_token hash ∷ []) second.spaced counted walk.old) }
 {
-    let from = tokens.len();
+    let from = tokens.len() as u32;
     let mut counted = counted;
     let text = &walk.rest()[..second.token.len];
     keep_token(alloc, tokens, second.token.kind, text, second.spaced)?;
     pass_counted(walk, second.token, &mut counted)?;
     read_behind(alloc, walk, tokens, &mut counted, false)?;
-    let to = tokens.len();
-    let kind = kind_behind_hash(part(tokens.as_slice(), from, to));
+    let to = tokens.len() as u32;
+    let kept = part(tokens.as_slice(), from as usize, to as usize);
+    let kind = kind_behind_hash(kept);
     Ok(Head {
         from,
         to,
@@ -193,13 +202,15 @@ fn read_behind_hash(
     counted: Lines,
     hash: Hash,
 ) -> Result<Head, BuildFault>
+    requires room { length tokens.old.items + length walk.old < 2 ^ 32 }
     ensures reads { IfOk result (HeadReads (hash_token hash ∷ []) false counted walk.old tokens.old.items tokens.new.items walk.new) }
     ensures shorter { OnOk result (length walk.new ≤ length walk.old) }
     ensures few { IfOk result (λ head. length head.counted + length walk.new ≤ length counted + length walk.old) }
+    ensures few_tokens { OnOk result (length tokens.new.items + length walk.new ≤ length tokens.old.items + length walk.old) }
     ensures tells { IfErr result (HeadTells (hash_token hash ∷ []) false counted walk.old) }
 {
     let Some(second) = pass_to_second(walk)? else {
-        let count = tokens.len();
+        let count = tokens.len() as u32;
         return Ok(Head {
             from: count,
             to: count,
@@ -228,11 +239,13 @@ pub(crate) fn read_directive(
     token: Start,
     tokens: &mut Vec<Token>,
 ) -> Result<Head, BuildFault>
+    requires room { length tokens.old.items + length walk.old < 2 ^ 32 }
     requires stands { StandsFirst (bytes_of walk.old) (First.Piece (PieceKind.Token token.kind) token.len) }
     requires hash { is_hash_text (take token.len (bytes_of walk.old)) ≡ true }
     ensures reads { IfOk result (λ head. (own : List Token) × Adds tokens.old.items tokens.new.items head own × Reads walk.old (node_with own head ∷ []) walk.new) }
     ensures shorter { OnOk result (length walk.new < length walk.old) }
     ensures few { IfOk result (λ head. length head.counted + length walk.new ≤ length walk.old) }
+    ensures few_tokens { OnOk result (length tokens.new.items + length walk.new ≤ length tokens.old.items + length walk.old) }
     ensures tells { IfErr result (Tells walk.old) }
 {
     let hash = hash_of(&walk.rest()[..token.len]);

@@ -17,9 +17,9 @@ use std::marker::Model;
 #[derive(Drop)]
 pub(crate) struct Head {
     /// The number of the tokens that are kept of the nodes before it.
-    pub(crate) from: usize,
+    pub(crate) from: u32,
     /// The number of the tokens that are kept of the nodes up to it.
-    pub(crate) to: usize,
+    pub(crate) to: u32,
     /// Its kind.
     pub(crate) kind: NodeKind,
     /// The spelling of the `#` of a directive.
@@ -102,7 +102,10 @@ impl Nodes {
         ensures { slice_get self.now at ≡ Some (node_of result.1.now result.0.now) }
     {
         let head = &self.heads[at];
-        (head, part(self.tokens.as_slice(), head.from, head.to))
+        (
+            head,
+            part(self.tokens.as_slice(), head.from as usize, head.to as usize),
+        )
     }
 
     /// The tokens of a directive behind its name, or behind its `#` where no identifier follows that; none of text.

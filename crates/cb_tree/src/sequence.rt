@@ -1,5 +1,5 @@
 //! The nodes of a source in order, with the first fault among them.
-ghost use Rattle.std.specs.Prelude.{◌≡◌, false, IfOk, IfErr};
+ghost use Rattle.std.specs.Prelude.{◌≡◌, ◌+◌, ◌^◌, ◌<◌, ◌≤◌, false, length, IfOk, IfErr, OnOk};
 ghost use Rattle.cb_tree.specs.Reads.{Tells, ReadsNode, ReadsOut, Refuses, AreSound};
 
 use crate::directive::read_directive;
@@ -18,7 +18,7 @@ use cb_tokens::Token;
 use std::alloc::Global;
 
 /// The head of a run of text behind so many tokens.
-fn text_head(count: usize, counted: Lines) -> Head
+fn text_head(count: u32, counted: Lines) -> Head
     ensures { result ≡ record { from = count; to = count; kind = NodeKind.Text; hash = Hash.Sign; spaced = false; counted = counted } }
 {
     Head {
@@ -37,7 +37,9 @@ fn read_from_token(
     walk: &mut Walk,
     tokens: &mut Vec<Token>,
 ) -> Result<Option<Head>, BuildFault>
+    requires room { length tokens.old.items + length walk.old < 2 ^ 32 }
     ensures reads { IfOk result (ReadsNode walk.old walk.new tokens.old.items tokens.new.items) }
+    ensures few_tokens { OnOk result (length tokens.new.items + length walk.new ≤ length tokens.old.items + length walk.old) }
     ensures tells { IfErr result (Tells walk.old) }
 {
     let Some(token) = skip_white(walk)? else {
@@ -48,7 +50,7 @@ fn read_from_token(
         return Ok(Some(head));
     }
     let counted = read_run(alloc, walk, token)?;
-    Ok(Some(text_head(tokens.len(), counted)))
+    Ok(Some(text_head(tokens.len() as u32, counted)))
 }
 
 /// Reads the next node and adds its tokens to those of the nodes before it, or goes to the end of the source where there is none.
@@ -57,14 +59,16 @@ fn read_node(
     walk: &mut Walk,
     tokens: &mut Vec<Token>,
 ) -> Result<Option<Head>, BuildFault>
+    requires room { length tokens.old.items + length walk.old < 2 ^ 32 }
     ensures reads { IfOk result (ReadsNode walk.old walk.new tokens.old.items tokens.new.items) }
+    ensures few_tokens { OnOk result (length tokens.new.items + length walk.new ≤ length tokens.old.items + length walk.old) }
     ensures tells { IfErr result (Tells walk.old) }
 {
     pass_white(walk);
     match begin_run(alloc, walk)? {
         Some(begun) => {
             let counted = read_on(walk, begun.counted, begun.place)?;
-            Ok(Some(text_head(tokens.len(), counted)))
+            Ok(Some(text_head(tokens.len() as u32, counted)))
         }
         None => {
             let head = read_from_token(alloc, walk, tokens)?;
@@ -88,6 +92,7 @@ fn read_out(walk: &mut Walk, fault: BuildFault) -> BuildFault
 
 /// The nodes of a source.
 pub(crate) fn read_nodes(alloc: Global, walk: &mut Walk) -> Result<Nodes, BuildFault>
+    requires { length walk.old < 2 ^ 32 }
     ensures nodes { IfOk result (AreSound walk.old) }
     ensures fault { IfErr result (Refuses walk.old) }
 {

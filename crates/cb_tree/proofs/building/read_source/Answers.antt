@@ -28,3 +28,8 @@ returns-in_err-nodes-clause-fault c =
     let p = err_from_is_err_and c.from_residual-in_err-nodes.result c.from_residual-in_err-nodes.ensures.1 in
     let P : List Mark → Type 0 = λ ms. Refuses ms c.in_err-nodes.field-0.0 in
     rw (p.1, p.2) (read_as c.args.source.now c.in_err-nodes.field-0.0 c.in_ok-check_size.ensures (subst P walk_is c.in_err-nodes.ensures.fault))
+
+pub read_nodes-requires : goal.read_nodes-requires
+read_nodes-requires c =
+    let walk_is : c.new-walk.result ≡ marks_of c.args.source.now = c.new-walk.ensures ∙ c.in_ok-marks.ensures in
+    omega (arith, few_marks c.args.source.now, ap length walk_is, c.in_ok-check_size.ensures.bytes)

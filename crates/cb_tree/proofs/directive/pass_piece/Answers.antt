@@ -1,8 +1,9 @@
-use Rattle.std.proofs.Common.{[], ◌∷◌, take, sym}
+use Rattle.std.proofs.Common.{[], ◌∷◌, length, take, ap, sym, arith}
 use Rattle.std.proofs.lemmas.List.{append-nil}
 use Rattle.cb_tokens.specs.declared.token.PieceKind.TheVariants as kinds
 use Rattle.cb_tree.proofs.Pieces.{shorter, within}
 use Rattle.cb_tree.proofs.Runs.{front_bytes, kept_few}
+use Rattle.cb_tree.proofs.Rows.{one_kept}
 use Rattle.cb_tree.proofs.Directives.{directive_white, directive_comment, directive_token, directive_ends_line, directive_ends_source}
 use Rattle.cb_tree.proofs.directive.pass_piece.Goals as goal
 
@@ -69,3 +70,12 @@ returns-in_ok-pass_counted-in-Token-clause-few c =
     rw (c.in_ok-pass_counted-in-Token.ensures.passed, c.in_ok-pass_counted-in-Token.ensures.counted)
     (kept_few c.in-Some.piece.len c.args.walk.now c.args.counted.now
     (within c.args.walk.now (kinds.Token c.in-Token.kind) c.in-Some.piece.len (rw (c.in-Some.is, c.in-Token.is) at c.in_ok-look_ahead.ensures)))
+
+pub returns-in_ok-pass_counted-in-Token-clause-few_tokens : goal.returns-in_ok-pass_counted-in-Token-clause-few_tokens
+returns-in_ok-pass_counted-in-Token-clause-few_tokens c =
+    omega (
+      arith,
+      one_kept _ _ _ c.in_ok-keep_token-in-Token.ensures,
+      ap length c.in_ok-pass_counted-in-Token.ensures.passed,
+      shorter c.args.walk.now (kinds.Token c.in-Token.kind) c.in-Some.piece.len (rw (c.in-Some.is, c.in-Token.is) at c.in_ok-look_ahead.ensures),
+    )

@@ -5,7 +5,8 @@ use Rattle.cb_tokens.specs.declared.token.Token.{Token}
 use Rattle.cb_tokens.specs.declared.token.PieceKind.TheVariants as kinds
 use Rattle.cb_tree.specs.Kinds.{kind_behind_hash}
 use Rattle.cb_tree.specs.Heads.{IsUnnamed, hash_token}
-use Rattle.cb_tree.proofs.Pieces.{within}
+use Rattle.cb_tree.proofs.Pieces.{shorter, within}
+use Rattle.cb_tree.proofs.Rows.{one_kept}
 use Rattle.cb_tree.proofs.Heads.{own_part}
 use Rattle.cb_tree.proofs.Runs.{kept_few}
 use Rattle.cb_tree.proofs.Directives.{directive_token, other_node, kept_behind}
@@ -22,7 +23,7 @@ returns-clause-reads c = λ ms line.
     let from_is = c.len-from.ensures ∙ c.args.tokens.now.ok.0 in
     let to_is = c.len-to.ensures ∙ c.read_behind.new.tokens.ok.0 in
     let part_is = own_part c.read_behind.new.tokens.items c.args.tokens.now.items kept c.len-to.result c.len-from.result added from_is to_is in
-    let kind_is : c.kind_behind_hash-kind.result ≡ kind_behind_hash kept = rw (c.part.ensures, c.as_slice.ensures.value, part_is) at c.kind_behind_hash-kind.ensures in
+    let kind_is : c.kind_behind_hash-kind.result ≡ kind_behind_hash kept = rw (c.part-kept.ensures, c.as_slice.ensures.value, part_is) at c.kind_behind_hash-kind.ensures in
     let unnamed : IsUnnamed c.kind_behind_hash-kind.result = subst IsUnnamed (sym kind_is) (c.requires.unnamed c.args.second.spaced g.kept) in
     let on = rw (c.in_ok-pass_counted.ensures.passed, c.in_ok-pass_counted.ensures.counted) at g.goes ms (hash_token c.args.hash ∷ second ∷ []) in (
       hash_token c.args.hash ∷ kept,
@@ -53,4 +54,26 @@ returns-clause-few c =
       ap length c.in_ok-pass_counted.ensures.passed,
       ap length c.in_ok-pass_counted.ensures.counted,
       kept_few c.args.second.token.len c.args.walk.now c.args.counted (within c.args.walk.now (kinds.Token c.args.second.token.kind) c.args.second.token.len c.requires.stands),
+    )
+
+pub returns-clause-few_tokens : goal.returns-clause-few_tokens
+returns-clause-few_tokens c =
+    omega (
+      arith,
+      c.in_ok-read_behind.ensures.few_tokens,
+      one_kept _ _ _ c.in_ok-keep_token.ensures,
+      ap length c.in_ok-pass_counted.ensures.passed,
+      shorter c.args.walk.now (kinds.Token c.args.second.token.kind) c.args.second.token.len c.requires.stands,
+    )
+
+pub overflow_cast-to : goal.overflow_cast-to
+overflow_cast-to c =
+    omega (
+      arith,
+      c.len-to.ensures ∙ c.read_behind.new.tokens.ok.0,
+      c.in_ok-read_behind.ensures.few_tokens,
+      one_kept _ _ _ c.in_ok-keep_token.ensures,
+      ap length c.in_ok-pass_counted.ensures.passed,
+      shorter c.args.walk.now (kinds.Token c.args.second.token.kind) c.args.second.token.len c.requires.stands,
+      c.requires.room,
     )

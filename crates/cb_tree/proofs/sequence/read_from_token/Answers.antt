@@ -30,3 +30,12 @@ returns-clause-reads c =
       omega (arith, reads_shorter c.args.walk.now [] c.skip_white.new.walk c.in_ok-token.ensures.reads, c.in_ok-counted.ensures.shorter),
       omega (arith, reads_shorter c.args.walk.now [] c.skip_white.new.walk c.in_ok-token.ensures.reads, c.in_ok-counted.ensures.few),
     )
+
+pub read_directive-requires-clause-room : goal.read_directive-requires-clause-room
+read_directive-requires-clause-room c = omega (arith, reads_shorter c.args.walk.now [] c.skip_white.new.walk c.in_ok-token.ensures.reads, c.requires)
+
+pub returns-then-is_hash_text-clause-few_tokens : goal.returns-then-is_hash_text-clause-few_tokens
+returns-then-is_hash_text-clause-few_tokens c = omega (arith, reads_shorter c.args.walk.now [] c.skip_white.new.walk c.in_ok-token.ensures.reads, c.in_ok-head.ensures.few_tokens)
+
+pub returns-clause-few_tokens : goal.returns-clause-few_tokens
+returns-clause-few_tokens c = omega (arith, reads_shorter c.args.walk.now [] c.skip_white.new.walk c.in_ok-token.ensures.reads, c.in_ok-counted.ensures.shorter)

@@ -1,4 +1,4 @@
-use Rattle.std.proofs.Common.{◌≡◌, ℕ, map, ap, ◌∙◌, sym, subst, Ok, Err}
+use Rattle.std.proofs.Common.{◌≡◌, ℕ, map, ap, ◌∙◌, sym, subst, Ok, Err, arith}
 use Rattle.std.proofs.lemmas.Result.{err_from_is_err_and}
 use Rattle.cb_tree.specs.Nodes.{first_of}
 use Rattle.cb_tree.specs.Sections.{sections_after}
@@ -21,6 +21,7 @@ nodes-preserved c =
           c.read_node.new.walk c.nodes.invariant.0 reads shorter few
           (subst (λ (x : ℕ). sections_after c.in-Some.head.kind x c.nodes.sections ≡ Ok c.after.new.self) line c.in-Ok.ensures.ok),
       all_within c.nodes.heads.items c.in-Some.head c.nodes.tokens.items c.read_node.new.tokens.items own c.nodes.invariant.1 adds,
+      omega (arith, c.nodes.invariant.2, c.in_ok-read_node.ensures.few_tokens),
     )
 
 pub returns-in-Err-clause-fault : goal.returns-in-Err-clause-fault
@@ -49,3 +50,6 @@ returns-in-Some-fault_at_end-clause-fault c =
     let (reads, end, same) = rw c.in-None.is at c.in_ok-read_node.ensures.reads in
     refuses_at_end c.args.walk.now (map (node_in c.nodes.tokens.items) c.nodes.heads.items) c.nodes.sections c.nodes.walk c.read_node.new.walk c.in-Some-fault_at_end.fault
     c.nodes.invariant.0 reads end (sym c.in-Some-fault_at_end.ensures)
+
+pub read_node-requires : goal.read_node-requires
+read_node-requires c = record { room = omega (arith, c.nodes.invariant.2, c.requires) }
