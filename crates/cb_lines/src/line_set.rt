@@ -1,5 +1,5 @@
 //! Sets of line numbers.
-ghost use Rattle.std.specs.Prelude.{◌≡◌, ◌||◌, ℕ, [], length, IfOk, OnOk};
+ghost use Rattle.std.specs.Prelude.{◌≡◌, ◌||◌, ℕ, [], ◌∷◌, length, IfOk, OnOk};
 ghost use Rattle.cb_lines.specs.Lines.{with_line, has_line, union_of, span_lines, AreMaximal};
 ghost use Rattle.std.specs.List.{flat_map};
 ghost use Rattle.std.specs.List.Sorted.{IsStrictlyIncreasing};
@@ -47,6 +47,19 @@ impl Lines {
     {
         Lines {
             spans: Runs::new(alloc),
+        }
+    }
+
+    /// The set of one line.
+    pub fn single(alloc: Global, line: u32) -> Lines
+        ensures { result ≡ line ∷ [] }
+    {
+        let run = Span {
+            first: line,
+            last: line,
+        };
+        Lines {
+            spans: Runs::single(alloc, run),
         }
     }
 
@@ -141,8 +154,7 @@ mod tests {
         let mut odd = Lines::new(rt.alloc());
         odd.add(1)?;
         odd.add(3)?;
-        let mut even = Lines::new(rt.alloc());
-        even.add(2)?;
+        let mut even = Lines::single(rt.alloc(), 2);
         let all = odd.union(rt.alloc(), &even)?;
         assert_eq!(rt; all.spans(), [span(1, 3)].as_slice());
         assert_eq!(rt; all.count(), 3);

@@ -49,6 +49,16 @@ impl Runs {
         }
     }
 
+    /// A single run.
+    pub(crate) fn single(alloc: Global, run: Span) -> Runs
+        ensures { result ≡ run ∷ [] }
+    {
+        Runs {
+            alloc,
+            stored: Stored::One([run]),
+        }
+    }
+
     /// A copy of these runs.
     pub(crate) fn from_slice(alloc: Global, runs: &[Span]) -> Result<Runs, NoMemory>
         ensures { IfOk result (λ copy. copy ≡ runs.now) }

@@ -26,7 +26,8 @@ pub use laws::one_cut;
 pub use lexed::Lexed;
 pub use lexing::tokens;
 pub use plain::{
-    Stretch, begins_with_line_end, pieces_end_with_lines, plain_stretch, white_front,
+    Stretch, begins_with_hash, begins_with_line_end, pieces_end_with_lines, plain_stretch,
+    white_front,
 };
 pub use token::{PieceKind, Token, TokenKind};
 pub use whole::one_token;

@@ -10,7 +10,8 @@ ghost use Rattle.cb_tokens.specs.declared.first.First.{First};
 ghost use Rattle.cb_tokens.specs.declared.token.PieceKind.{PieceKind};
 ghost use Rattle.cb_tokens.specs.declared.token.TokenKind.{TokenKind};
 
-use crate::runs::{is_line_feed, white_len};
+use crate::punctuator::punctuator_len;
+use crate::runs::{byte_at, is_line_feed, white_len};
 use crate::table::{is_quiet, is_white};
 
 /// Bytes at the front that need no look at each piece.
@@ -48,6 +49,17 @@ pub fn begins_with_line_end(bytes: &[u8]) -> bool
     ensures { IsTrue result ↔ StandsFirst bytes.now (First.Piece PieceKind.LineEnd 1) }
 {
     is_feed_at(bytes, 0)
+}
+
+/// Whether `#` stands at the front, as a token of its own.
+#[inline]
+pub fn begins_with_hash(bytes: &[u8]) -> bool
+    ensures { IsTrue result ↔ ((slice_index bytes.now 0 ≡ 35) × StandsFirst bytes.now (First.Piece (PieceKind.Token TokenKind.Punct) 1)) }
+{
+    if byte_at(bytes, 0) != b'#' {
+        return false;
+    }
+    punctuator_len(bytes) == 1
 }
 
 /// The number of quiet bytes at the front.

@@ -1,5 +1,5 @@
 -- What stands at the front of every cut of marks that begin with # or %:.
-use Rattle.std.proofs.Common.{◌≡◌, ℕ, true, ◌⊎◌, inl, inr, ⊎_elim, List, [], ◌∷◌, length, take, refl, ap, sym, subst, ◌∙◌, arith}
+use Rattle.std.proofs.Common.{◌≡◌, ℕ, true, ◌⊎◌, inl, inr, ⊎_elim, List, [], ◌∷◌, length, get_or, take, refl, ap, sym, subst, ◌∙◌, arith}
 use Rattle.std.specs.Str.{bytes_eq}
 use Rattle.std.specs.Prelude.{codes}
 use Rattle.std.proofs.lemmas.List.{take-map}
@@ -97,3 +97,16 @@ hash_next ms k n h hash (p ∷ ps) cut =
       more_is = ap (λ x. record { kind = x; marks = p.marks } ∷ ps) j.1;
       hash = ap is_hash_text t ∙ hash;
     }
+
+-- a # at the front
+pub hash_bytes : (bs : List ℕ) → get_or bs 0 0 ≡ 35 → is_hash_text (take 1 bs) ≡ true
+unfolding is_hash_text
+hash_bytes [] h = absurd (cc)
+hash_bytes (b ∷ bs) h = rw h refl
+
+-- the spelling by the number of bytes
+pub sign_by_length : (text : List ℕ) → is_hash_text text ≡ true → length text ≡ 1 → text ≡ codes "#"
+sign_by_length text h l = ⊎_elim (λ e. e) (λ e. absurd (omega (arith, l, ap length e))) (spellings text h)
+
+pub digraph_by_length : (text : List ℕ) → is_hash_text text ≡ true → (length text ≡ 1 → ⊥) → text ≡ codes "%:"
+digraph_by_length text h l = digraph_left text h (λ e. l (ap length e))

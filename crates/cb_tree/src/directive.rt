@@ -108,8 +108,7 @@ fn read_led(
     ensures tells { IfErr result (Tells walk.old) }
 {
     let from = tokens.len() as u32;
-    let mut counted = Lines::new(alloc);
-    counted.add(walk.line())?;
+    let mut counted = Lines::single(alloc, walk.line());
     walk.pass_row(lead.len);
     read_behind(alloc, walk, tokens, &mut counted, false)?;
     Ok(Head {

@@ -43,7 +43,7 @@ pub(crate) fn hash_of(text: &[u8]) -> Hash
     requires { is_hash_text text.now ≡ true }
     ensures { hash_text result ≡ text.now }
 {
-    if text == b"#".as_slice() {
+    if text.len() == 1 {
         Hash::Sign
     } else {
         Hash::Digraph

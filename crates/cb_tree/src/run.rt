@@ -11,7 +11,7 @@ ghost use Rattle.cb_tree.specs.Reads.{Reads, ReadsRun, RunGoes, Tells, text_node
 use crate::fault::BuildFault;
 use crate::kind::is_hash_text;
 use crate::reading::{Place, Start, look_ahead, pass_ahead, pass_counted};
-use crate::stretch::pass_lines;
+use crate::stretch::{ends_run, pass_lines};
 use cb_lines::{Lines, Walk};
 use cb_tokens::PieceKind;
 use std::alloc::Global;
@@ -98,6 +98,9 @@ pub(crate) fn read_on(walk: &mut Walk, known: Lines, place: Place) -> Result<Lin
     let mut most = usize::MAX;
     'pieces: loop {
         place = pass_lines(walk, &mut counted, place, &mut most)?;
+        if ends_run(place, walk.rest()) {
+            return Ok(counted);
+        }
         match pass_piece(walk, &mut counted, place)? {
             Some(next) => place = next,
             None => return Ok(counted),

@@ -8,13 +8,13 @@ use crate::kind::is_hash_text;
 use crate::node::NodeKind;
 use crate::nodes::{Head, Nodes};
 use crate::opening::Hash;
-use crate::reading::{look_ahead, skip_white};
+use crate::reading::{Start, look_ahead, skip_white};
 use crate::run::{read_on, read_run};
 use crate::sections::Sections;
 use crate::stretch::{begin_run, pass_white};
 use crate::tree::first_line;
 use cb_lines::{Lines, Walk};
-use cb_tokens::Token;
+use cb_tokens::{Token, TokenKind, begins_with_hash};
 use std::alloc::Global;
 
 /// The head of a run of text behind so many tokens.
@@ -65,7 +65,15 @@ fn read_node(
     ensures tells { IfErr result (Tells walk.old) }
 {
     pass_white(walk);
-    match begin_run(alloc, walk)? {
+    if begins_with_hash(walk.rest()) {
+        let hash = Start {
+            kind: TokenKind::Punct,
+            len: 1,
+        };
+        let head = read_directive(alloc, walk, hash, tokens)?;
+        return Ok(Some(head));
+    }
+    match begin_run(alloc, walk) {
         Some(begun) => {
             let counted = read_on(walk, begun.counted, begun.place)?;
             Ok(Some(text_head(tokens.len() as u32, counted)))

@@ -1,15 +1,29 @@
 //! Stretches of a run that are passed without a look at each piece.
-ghost use Rattle.std.specs.Prelude.{ℕ, ◌≡◌, ◌≢◌, ◌+◌, ◌<◌, ◌≤◌, [], List, length, drop, slice_index, true, false, IfOk, IfErr, IfSome, OnOk, MatchOption};
+ghost use Rattle.std.specs.Prelude.{ℕ, ◌≡◌, ◌≢◌, ◌+◌, ◌<◌, ◌≤◌, [], List, length, drop, slice_index, true, false, IfOk, IfErr, IfSome, OnOk, IsTrue, MatchOption};
 ghost use Rattle.cb_lines.specs.declared.mark.Mark.{Mark};
 ghost use Rattle.cb_lines.specs.Marks.{bytes_of, is_line_feed};
+ghost use Rattle.cb_tokens.specs.Cut.{StandsFirst};
+ghost use Rattle.cb_tokens.specs.declared.first.First.{First};
 ghost use Rattle.cb_tree.specs.Reads.{Reads, ReadsRun, Tells};
 
 use crate::fault::BuildFault;
 use crate::reading::Place;
 use cb_lines::{Lines, Walk, one_line};
-use cb_paths::NoMemory;
-use cb_tokens::{begins_with_line_end, plain_stretch, white_front};
+use cb_tokens::{
+    PieceKind, TokenKind, begins_with_hash, begins_with_line_end, plain_stretch, white_front,
+};
 use std::alloc::Global;
+
+/// Whether a run ends before these bytes: a directive begins with them.
+pub(crate) fn ends_run(place: Place, bytes: &[u8]) -> bool
+    ensures { IsTrue result → (place ≡ Place.LineStart) × (slice_index bytes.now 0 ≡ 35)
+        × StandsFirst bytes.now (First.Piece (PieceKind.Token TokenKind.Punct) 1) }
+{
+    match place {
+        Place::LineStart => begins_with_hash(bytes),
+        Place::InLine => false,
+    }
+}
 
 /// Goes past white space.
 pub(crate) fn pass_white(walk: &mut Walk)
@@ -124,22 +138,21 @@ pub(crate) struct Begun {
 }
 
 /// Begins a run with the front of its first line, if no directive may begin there.
-pub(crate) fn begin_run(alloc: Global, walk: &mut Walk) -> Result<Option<Begun>, NoMemory>
-    ensures begins { IfOk result (λ begun. MatchOption begun (walk.new ≡ walk.old) (λ run. ReadsRun walk.old run.place run.counted walk.new)) }
-    ensures shorter { IfOk result (λ begun. IfSome begun (λ _. length walk.new < length walk.old)) }
-    ensures few { IfOk result (λ begun. IfSome begun (λ run. length run.counted + length walk.new ≤ length walk.old)) }
+pub(crate) fn begin_run(alloc: Global, walk: &mut Walk) -> Option<Begun>
+    ensures begins { MatchOption result (walk.new ≡ walk.old) (λ run. ReadsRun walk.old run.place run.counted walk.new) }
+    ensures shorter { IfSome result (λ _. length walk.new < length walk.old) }
+    ensures few { IfSome result (λ run. length run.counted + length walk.new ≤ length walk.old) }
 {
     let row = walk.row();
     if may_be_directive(Place::LineStart, row) {
-        return Ok(None);
+        return None;
     }
     let stretch = plain_stretch(row);
     if stretch.len == 0 {
-        return Ok(None);
+        return None;
     }
     one_line();
-    let mut counted = Lines::new(alloc);
-    counted.add(walk.line())?;
+    let counted = Lines::single(alloc, walk.line());
     let place = pass_front(walk, stretch.len);
-    Ok(Some(Begun { counted, place }))
+    Some(Begun { counted, place })
 }

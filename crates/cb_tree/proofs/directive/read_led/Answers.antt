@@ -9,8 +9,8 @@ use Rattle.cb_tree.proofs.directive.read_led.Goals as goal
 
 pub returns-clause-reads : goal.returns-clause-reads
 returns-clause-reads c =
-    let reads : ReadsDirective c.args.walk.now (hash_token c.args.hash ∷ name_token c.args.lead.kind c.args.lead.spaced ∷ []) false c.add.new.self c.pass_row.new.self =
-    rw (c.in_ok-add.ensures, c.new-counted.ensures, c.line.ensures, c.pass_row.ensures) c.requires.reads in
+    let reads : ReadsDirective c.args.walk.now (hash_token c.args.hash ∷ name_token c.args.lead.kind c.args.lead.spaced ∷ []) false c.single-counted.result c.pass_row.new.self =
+    rw (c.single-counted.ensures, c.line.ensures, c.pass_row.ensures) c.requires.reads in
     let g = c.in_ok-read_behind.ensures.goes in (
       tokens_with c.args.lead.kind c.args.hash c.args.lead.spaced g.kept,
       record {
@@ -27,7 +27,7 @@ returns-clause-reads c =
 
 pub returns-in_err-read_behind-clause-tells : goal.returns-in_err-read_behind-clause-tells
 returns-in_err-read_behind-clause-tells c =
-    let p = err_from_is_err_and c.from_residual-in_err-read_behind.result c.from_residual-in_err-read_behind.ensures.1 in
-    let reads : ReadsDirective c.args.walk.now (hash_token c.args.hash ∷ name_token c.args.lead.kind c.args.lead.spaced ∷ []) false c.add.new.self c.pass_row.new.self =
-    rw (c.in_ok-add.ensures, c.new-counted.ensures, c.line.ensures, c.pass_row.ensures) c.requires.reads in
+    let p = err_from_is_err_and c.from_residual.result c.from_residual.ensures.1 in
+    let reads : ReadsDirective c.args.walk.now (hash_token c.args.hash ∷ name_token c.args.lead.kind c.args.lead.spaced ∷ []) false c.single-counted.result c.pass_row.new.self =
+    rw (c.single-counted.ensures, c.line.ensures, c.pass_row.ensures) c.requires.reads in
     rw (p.1, p.2) (c.in_err-read_behind.ensures.tells (hash_token c.args.hash ∷ name_token c.args.lead.kind c.args.lead.spaced ∷ []) c.args.walk.now reads)

@@ -1,9 +1,9 @@
-use Rattle.std.proofs.Common.{sym}
-use Rattle.std.specs.Prelude.{codes}
-use Rattle.std.proofs.lemmas.Slice.Eq.{bytes_eq-Decides}
-use Rattle.cb_tree.proofs.Hash.{digraph_left}
+use Rattle.std.proofs.Common.{sym, arith}
+use Rattle.cb_tree.proofs.Hash.{sign_by_length, digraph_by_length}
 use Rattle.cb_tree.proofs.opening.hash_of.Goals as goal
 
-pub returns-else-eq : goal.returns-else-eq
-returns-else-eq c =
-    sym (digraph_left c.args.text.now c.requires (λ e. absurd (cc ((bytes_eq-Decides c.args.text.now (codes "#")).1 e, rw c.as_slice.ensures at c.if-eq.ensures))))
+pub returns-then-text-eq1 : goal.returns-then-text-eq1
+returns-then-text-eq1 c = sym (sign_by_length c.args.text.now c.requires (omega arith))
+
+pub returns-else-text-eq1 : goal.returns-else-text-eq1
+returns-else-text-eq1 c = sym (digraph_by_length c.args.text.now c.requires (λ e. absurd (omega arith)))

@@ -19,6 +19,6 @@ returns-clause-begins c =
     let no = c.if-may_be_directive.ensures.no refl refl in
     let all = start_stretch rest n (first_line rest) (c.plain_stretch-stretch.ensures.cut rest c.row-row.ensures.front some)
     (λ h. no.0 (sym head ∙ h), λ h. no.1 (sym head ∙ h)) (λ xs set. c.one_line.ensures (first_line rest) xs set) stands in
-    c.pass_front-place.ensures.goes rest c.add.new.self
+    c.pass_front-place.ensures.goes rest c.single-counted.result
     (subst (λ (set : List ℕ). ReadsRun rest InLine set (drop n rest))
-    (sym (c.in_ok-add.ensures ∙ (ap (with_line c.line.result) c.new-counted.ensures ∙ ap (λ (l : ℕ). with_line l []) c.line.ensures))) all)
+    (sym (c.single-counted.ensures ∙ ap (λ (l : ℕ). with_line l []) c.line.ensures)) all)
