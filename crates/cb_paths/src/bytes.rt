@@ -1,5 +1,5 @@
 //! A text of bytes, which need not be UTF-8.
-ghost use Rattle.std.specs.Prelude.{◌≡◌, ◌==◌, ◌≤◌, [], length, IfOk};
+ghost use Rattle.std.specs.Prelude.{◌≡◌, ◌==◌, ◌≤◌, ◌∷◌, [], length, IfOk};
 ghost use Rattle.cb_paths.specs.Texts.{text_of, IsText};
 
 use crate::memory::NoMemory;
@@ -37,8 +37,26 @@ impl Model for Bytes {
     ghost invariant = { λ b. IsText b.text };
 }
 
+/// A text of one byte, as most punctuators and digits are.
+#[inline]
+fn single(byte: u8) -> Text
+    ensures text { text_of result ≡ byte ∷ [] }
+    ensures kept { IsText result }
+{
+    Text::Short(1, [byte, 0, 0, 0, 0, 0, 0, 0, 0, 0, 0, 0, 0, 0])
+}
+
+/// A text of two bytes.
+#[inline]
+fn pair(first: u8, second: u8) -> Text
+    ensures text { text_of result ≡ first ∷ second ∷ [] }
+    ensures kept { IsText result }
+{
+    Text::Short(2, [first, second, 0, 0, 0, 0, 0, 0, 0, 0, 0, 0, 0, 0])
+}
+
 /// A text of few bytes.
-fn short(bytes: &[u8]) -> Text
+fn few(bytes: &[u8]) -> Text
     requires { length bytes.now ≤ SHORT }
     ensures text { text_of result ≡ bytes.now }
     ensures kept { IsText result }
@@ -48,6 +66,20 @@ fn short(bytes: &[u8]) -> Text
         held[i] = bytes[i];
     }
     Text::Short(bytes.len() as u8, held)
+}
+
+/// A text of few bytes. Those of one and two bytes, which are most of all, are made without a loop.
+#[inline]
+fn short(bytes: &[u8]) -> Text
+    requires { length bytes.now ≤ SHORT }
+    ensures text { text_of result ≡ bytes.now }
+    ensures kept { IsText result }
+{
+    match bytes.len() {
+        1 => single(bytes[0]),
+        2 => pair(bytes[0], bytes[1]),
+        _ => few(bytes),
+    }
 }
 
 impl Bytes {

@@ -51,13 +51,19 @@ fn fault_name(kind: SourceKind) -> &'static str
     }
 }
 
+/// Adds a number in decimal digits, which are first made in the buffer.
+fn push_digits(text: &mut Vec<u8>, buffer: &mut Buffer, number: u32) -> Result<(), NoMemory>
+    ensures { OnOk result (text.new.items ≡ text.old.items ++ decimal number) }
+{
+    text.extend_from_slice(buffer.format(number).as_bytes())?;
+    Ok(())
+}
+
 /// Adds a number in decimal digits.
 fn push_number(text: &mut Vec<u8>, number: u32) -> Result<(), NoMemory>
     ensures { OnOk result (text.new.items ≡ text.old.items ++ decimal number) }
 {
-    let mut buffer = Buffer::new();
-    text.extend_from_slice(buffer.format(number).as_bytes())?;
-    Ok(())
+    push_digits(text, &mut Buffer::new(), number)
 }
 
 /// What is written where the input is no sound source.
@@ -85,20 +91,20 @@ pub(crate) fn not_yet_text(alloc: Global, line: u32) -> Result<Vec<u8>, NoMemory
 }
 
 /// Adds a number on a line of its own.
-fn push_line(text: &mut Vec<u8>, number: u32) -> Result<(), NoMemory>
+fn push_line(text: &mut Vec<u8>, buffer: &mut Buffer, number: u32) -> Result<(), NoMemory>
     ensures { OnOk result (text.new.items ≡ text.old.items ++ line_text (decimal number)) }
 {
-    push_number(text, number)?;
+    push_digits(text, buffer, number)?;
     text.push(b'\n')?;
     Ok(())
 }
 
 /// Adds the numbers of a span, each on a line of its own.
-fn push_span(text: &mut Vec<u8>, span: Span) -> Result<(), NoMemory>
+fn push_span(text: &mut Vec<u8>, buffer: &mut Buffer, span: Span) -> Result<(), NoMemory>
     ensures { OnOk result (text.new.items ≡ text.old.items ++ numbers_text (span_lines span)) }
 {
     for line in u64::from(span.first)..u64::from(span.last) + 1 {
-        push_line(text, line as u32)?;
+        push_line(text, buffer, line as u32)?;
     }
     Ok(())
 }
@@ -109,8 +115,9 @@ pub(crate) fn numbers_text(alloc: Global, lines: &Lines) -> Result<Vec<u8>, NoMe
     ensures { IfOk result (λ text. text.items ≡ numbers_text lines.now) }
 {
     let mut text = Vec::new(alloc);
+    let mut buffer = Buffer::new();
     for span in lines.spans() {
-        push_span(&mut text, *span)?;
+        push_span(&mut text, &mut buffer, *span)?;
     }
     Ok(text)
 }
