@@ -6,19 +6,24 @@ use crate::memory::NoMemory;
 use std::alloc::Global;
 use std::marker::Model;
 
-/// The bytes that lie in a value itself.
+/// The bytes that lie in a value itself beside their number.
 const SHORT: usize = 14;
+
+/// The bytes that fill a value.
+const FULL: usize = 15;
 
 /// How a text is kept.
 #[derive(Drop)]
 pub(crate) enum Text {
     /// In the value itself: the number of the bytes, and the bytes at the front.
     Short(u8, [u8; SHORT]),
+    /// In the value itself, which these bytes fill.
+    Full([u8; FULL]),
     /// Apart from it.
     Long(Box<Vec<u8>>),
 }
 
-/// A vector of bytes, which contracts see as the list of them. It takes 16 bytes: texts of up to 14 bytes lie in the value itself
+/// A vector of bytes, which contracts see as the list of them. It takes 16 bytes: texts of up to 15 bytes lie in the value itself
 /// and take no memory of their own.
 #[derive(Drop)]
 pub struct Bytes {
@@ -68,6 +73,17 @@ fn few(bytes: &[u8]) -> Text
     Text::Short(bytes.len() as u8, held)
 }
 
+/// A text of as many bytes as fill a value.
+fn full(bytes: &[u8]) -> Text
+    requires { length bytes.now ≡ FULL }
+    ensures text { text_of result ≡ bytes.now }
+    ensures kept { IsText result }
+{
+    let mut held = [0; FULL];
+    held.copy_from_slice(bytes);
+    Text::Full(held)
+}
+
 /// A text of few bytes. Those of one and two bytes, which are most of all, are made without a loop.
 #[inline]
 fn short(bytes: &[u8]) -> Text
@@ -97,6 +113,9 @@ impl Bytes {
         if bytes.len() <= SHORT {
             return Ok(Bytes { text: short(bytes) });
         }
+        if bytes.len() == FULL {
+            return Ok(Bytes { text: full(bytes) });
+        }
         let long = Vec::from_slice(alloc, bytes)?;
         let long = Box::new(alloc, long)?;
         Ok(Bytes {
@@ -117,6 +136,7 @@ impl Bytes {
     {
         match &self.text {
             Text::Short(len, bytes) => &bytes[..*len as usize],
+            Text::Full(bytes) => bytes.as_slice(),
             Text::Long(bytes) => bytes.as_slice(),
         }
     }
@@ -149,9 +169,11 @@ mod tests {
         for text in [
             b"".as_slice(),
             b"a".as_slice(),
+            b"ab".as_slice(),
             b"fourteen bytes".as_slice(),
             b"fifteen bytes, ".as_slice(),
-            b"a text of some more than fourteen bytes".as_slice(),
+            b"a text of 16 ...".as_slice(),
+            b"a text of some more than fifteen bytes".as_slice(),
         ] {
             let bytes = Bytes::from_slice(rt.alloc(), text)?;
             let copy = bytes.copy(rt.alloc())?;

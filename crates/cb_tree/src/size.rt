@@ -15,14 +15,29 @@ fn ends_open(source: &[u8]) -> bool
     !source.is_empty() && source[source.len() - 1] != b'\n'
 }
 
+/// The number of the line ends in few bytes: so few that it fits a byte, in which many are added at once.
+fn line_ends_in(bytes: &[u8]) -> u8
+    requires { length bytes.now ≤ 255 }
+    ensures { result ≡ count_by is_line_feed bytes.now }
+{
+    let mut count = 0u8;
+    for byte in bytes {
+        count += u8::from(*byte == b'\n');
+    }
+    count
+}
+
 /// The number of the line ends.
 fn line_end_count(source: &[u8]) -> u32
     requires { length source.now ≤ 4194304 }
     ensures { result ≡ count_by is_line_feed source.now }
 {
     let mut count = 0u32;
-    for byte in source {
-        count += u32::from(*byte == b'\n');
+    let mut left = source;
+    'parts: while !left.is_empty() {
+        let (front, behind) = left.split_at(left.len().min(255));
+        count += u32::from(line_ends_in(front));
+        left = behind;
     }
     count
 }
