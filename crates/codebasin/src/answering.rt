@@ -2,8 +2,7 @@
 ghost use Rattle.std.specs.Prelude.{◌≡◌, IfOk};
 ghost use Rattle.codebasin.specs.Answers.{Answers, SaysOfNodes};
 
-use crate::early::first_unready;
-use crate::reached::reached_lines;
+use crate::reached::{Passed, pass_over};
 use crate::starting::start_names;
 use crate::texts::{TOO_LONG, fault_text, not_yet_text, numbers_text};
 use cb_paths::{Bytes, NoMemory, SOURCE_BYTE_LIMIT};
@@ -42,14 +41,18 @@ struct Subject {
 fn answer_tree(alloc: Global, subject: &Subject) -> Result<Answer, NoMemory>
     ensures { IfOk result (λ answer. SaysOfNodes subject.now.names.items subject.now.tree answer.status answer.text.items) }
 {
-    if let Some(line) = first_unready(&subject.tree) {
-        let text = not_yet_text(alloc, line)?;
-        return Ok(Answer { status: 2, text });
-    }
     let names = start_names(alloc, subject.names.as_slice())?;
-    let lines = reached_lines(alloc, &subject.tree, names)?;
-    let text = numbers_text(alloc, &lines)?;
-    Ok(Answer { status: 0, text })
+    let passed = pass_over(alloc, &subject.tree, names)?;
+    match passed {
+        Passed::UpTo(line) => {
+            let text = not_yet_text(alloc, line)?;
+            Ok(Answer { status: 2, text })
+        }
+        Passed::All(lines) => {
+            let text = numbers_text(alloc, &lines)?;
+            Ok(Answer { status: 0, text })
+        }
+    }
 }
 
 /// What is said of a source, where these names are defined before it.

@@ -1,7 +1,7 @@
 //! What a pass does not take up yet.
 ghost use Rattle.std.specs.Prelude.{◌≡◌, ◌≤◌, ◌-◌, length, slice_get, Some};
 ghost use Rattle.cb_tree.specs.Nodes.{Node, node_rest};
-ghost use Rattle.codebasin.specs.NotYet.{is_bare_definition, is_ready, first_unready};
+ghost use Rattle.codebasin.specs.NotYet.{is_bare_definition, is_ready};
 
 use crate::defined::leaves_name;
 use crate::pass::may_be_macro;
@@ -34,21 +34,9 @@ fn is_ready(kind: NodeKind, rest: &[Token]) -> bool
 }
 
 /// Whether a pass takes up a node of a tree.
-fn is_ready_at(tree: &Tree, node: u32) -> bool
+pub(crate) fn is_ready_at(tree: &Tree, node: u32) -> bool
     requires { (1 ≤ node) × (node ≤ length tree.now) }
     ensures { (n : Node) → slice_get tree.now (node - 1) ≡ Some n → result ≡ is_ready n.kind (node_rest n) }
 {
     is_ready(tree.kind(node), tree.rest(node))
-}
-
-/// The line of the first node that a pass does not take up.
-pub(crate) fn first_unready(tree: &Tree) -> Option<u32>
-    ensures { result ≡ first_unready tree.now }
-{
-    for index in 0..tree.len() {
-        if !is_ready_at(tree, index + 1) {
-            return Some(tree.line(index + 1));
-        }
-    }
-    None
 }

@@ -1,9 +1,11 @@
-//! The counted lines that a pass reaches.
+//! A pass over a tree, and the counted lines that it reaches.
 ghost use Rattle.std.specs.Prelude.{◌≡◌, ◌≤◌, ◌-◌, [], true, Bool, List, length, slice_get, Some, OnOk, IfOk, if◌then◌else◌};
 ghost use Rattle.cb_lines.specs.Lines.{span_lines};
-ghost use Rattle.codebasin.specs.Pass.{Reaches, Holds, is_asked, with_numbers, lines_of_nodes, is_reached, state_behind};
+ghost use Rattle.codebasin.specs.Pass.{Holds, is_asked, with_numbers, is_reached, state_behind};
+ghost use Rattle.codebasin.specs.Passing.{HasPassed};
 ghost use Rattle.cb_tree.specs.Nodes.{Node, node_rest};
 
+use crate::early::is_ready_at;
 use crate::names::Names;
 use crate::pass::Pass;
 use cb_lines::{Lines, Span};
@@ -63,19 +65,30 @@ fn visit<'a>(
     pass.go_past(alloc, kind, tree.rest(node))
 }
 
-/// The set of the counted lines of the nodes that a pass over a tree reaches, where these names are defined at its start.
-pub(crate) fn reached_lines<'a>(
+/// How far a pass went over a tree.
+#[derive(Drop)]
+pub(crate) enum Passed {
+    /// Over all nodes, with the counted lines of those that it reached.
+    All(Lines),
+    /// Up to the first node that a pass does not take up, which stands on this line.
+    UpTo(u32),
+}
+
+/// Passes over a tree, where these names are defined at its start.
+pub(crate) fn pass_over<'a>(
     alloc: Global,
     tree: &'a Tree,
     names: Names<'a>,
-) -> Result<Lines, NoMemory>
-    ensures { IfOk result (λ lines. (reached : List Node)
-        × Reaches tree.now (record { sections = []; names = names.entry }) reached × (lines ≡ lines_of_nodes reached)) }
+) -> Result<Passed, NoMemory>
+    ensures { IfOk result (HasPassed tree.now names.entry) }
 {
     let mut lines = Lines::new(alloc);
     let mut pass = Pass::new(alloc, names);
     for index in 0..tree.len() {
+        if !is_ready_at(tree, index + 1) {
+            return Ok(Passed::UpTo(tree.line(index + 1)));
+        }
         visit(alloc, &mut pass, &mut lines, tree, index + 1)?;
     }
-    Ok(lines)
+    Ok(Passed::All(lines))
 }
