@@ -73,6 +73,20 @@ fn few(bytes: &[u8]) -> Text
     Text::Short(bytes.len() as u8, held)
 }
 
+/// A text of more bytes. It stays out of the way of the short ones.
+#[inline(never)]
+fn long(alloc: Global, bytes: &[u8]) -> Result<Text, NoMemory>
+    ensures text { IfOk result (λ text. text_of text ≡ bytes.now) }
+    ensures kept { IfOk result IsText }
+{
+    if bytes.len() == FULL {
+        return Ok(full(bytes));
+    }
+    let long = Vec::from_slice(alloc, bytes)?;
+    let long = Box::new(alloc, long)?;
+    Ok(Text::Long(long))
+}
+
 /// A text of as many bytes as fill a value.
 fn full(bytes: &[u8]) -> Text
     requires { length bytes.now ≡ FULL }
@@ -107,20 +121,15 @@ impl Bytes {
     }
 
     /// A copy of these bytes.
+    #[inline]
     pub fn from_slice(alloc: Global, bytes: &[u8]) -> Result<Bytes, NoMemory>
         ensures { IfOk result (λ b. b ≡ bytes.now) }
     {
         if bytes.len() <= SHORT {
             return Ok(Bytes { text: short(bytes) });
         }
-        if bytes.len() == FULL {
-            return Ok(Bytes { text: full(bytes) });
-        }
-        let long = Vec::from_slice(alloc, bytes)?;
-        let long = Box::new(alloc, long)?;
-        Ok(Bytes {
-            text: Text::Long(long),
-        })
+        let text = long(alloc, bytes)?;
+        Ok(Bytes { text })
     }
 
     /// A second text of the same bytes.

@@ -38,6 +38,7 @@ pub(crate) enum InRow {
 }
 
 /// Keeps a token of these bytes.
+#[inline]
 pub(crate) fn keep_token(
     alloc: Global,
     tokens: &mut Vec<Token>,
@@ -74,6 +75,7 @@ pub(crate) fn next_in_row(bytes: &[u8], at: usize, end: usize) -> InRow
 }
 
 /// Keeps a piece if it is a token, and answers how far the line is read with it.
+#[inline]
 fn keep_piece(
     alloc: Global,
     bytes: &[u8],

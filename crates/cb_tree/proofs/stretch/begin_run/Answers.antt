@@ -10,11 +10,11 @@ use Rattle.cb_tree.proofs.stretch.begin_run.Goals as goal
 pub returns-clause-begins : goal.returns-clause-begins
 returns-clause-begins c =
     let rest : List Mark = c.args.walk.now in
-    let row : List ℕ = c.row-row.result.now in
+    let ahead : List ℕ = c.row-row.result.now in
     let n : ℕ = c.plain_stretch-stretch.result.len in
     let some : 0 < n = omega arith in
     let inside = c.plain_stretch-stretch.ensures.inside some in
-    let head : get_or (bytes_of rest) 0 0 ≡ get_or row 0 0 = first_byte row (bytes_of rest) c.row-row.ensures.front (omega arith) in
+    let head : get_or (bytes_of rest) 0 0 ≡ get_or ahead 0 0 = first_byte ahead (bytes_of rest) c.row-row.ensures.front (omega arith) in
     let stands : StandOn (first_line rest) (take n rest) = c.row-row.ensures.one_line n (omega arith) (λ k h. c.plain_stretch-stretch.ensures.no_feed k (omega arith)) in
     let no = c.if-may_be_directive.ensures.no refl refl in
     let all = start_stretch rest n (first_line rest) (c.plain_stretch-stretch.ensures.cut rest c.row-row.ensures.front some)

@@ -11,12 +11,12 @@ use Rattle.cb_tree.proofs.stretch.pass_stretch.Goals as goal
 pub returns-clause-goes : goal.returns-clause-goes
 returns-clause-goes c = λ ms run.
     let rest : List Mark = c.pass_white.new.walk in
-    let row : List ℕ = c.row-row.result.now in
+    let ahead : List ℕ = c.row-row.result.now in
     let n : ℕ = c.plain_stretch-stretch.result.len in
     let counted : List ℕ = c.args.counted.now in
     let some : 0 < n = omega arith in
     let inside = c.plain_stretch-stretch.ensures.inside some in
-    let head : get_or (bytes_of rest) 0 0 ≡ get_or row 0 0 = first_byte row (bytes_of rest) c.row-row.ensures.front (omega arith) in
+    let head : get_or (bytes_of rest) 0 0 ≡ get_or ahead 0 0 = first_byte ahead (bytes_of rest) c.row-row.ensures.front (omega arith) in
     let stands : StandOn (first_line rest) (take n rest) = c.row-row.ensures.one_line n (omega arith) (λ k h. c.plain_stretch-stretch.ensures.no_feed k (omega arith)) in
     let all = run_stretch ms c.args.place counted rest n (first_line rest) (c.plain_stretch-stretch.ensures.cut rest c.row-row.ensures.front some)
     (λ e. let no = c.if-may_be_directive.ensures.no refl e in (λ h. no.0 (sym head ∙ h), λ h. no.1 (sym head ∙ h)))
