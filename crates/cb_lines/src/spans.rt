@@ -93,6 +93,16 @@ pub(crate) fn add_line(spans: &mut Runs, line: u32) -> Result<(), NoMemory>
     if lengthen(spans, line) {
         return Ok(());
     }
+    add_apart(spans, line)
+}
+
+/// Adds a line to maximal spans, the last of which does not reach it. It stays out of the way of the calls that lengthen that one.
+#[inline(never)]
+fn add_apart(spans: &mut Runs, line: u32) -> Result<(), NoMemory>
+    requires { AreMaximal spans.old }
+    ensures maximal { AreMaximal spans.new }
+    ensures numbers { OnOk result (flat_map span_lines spans.new ≡ with_line line (flat_map span_lines spans.old)) }
+{
     let alone = Span {
         first: line,
         last: line,
@@ -104,8 +114,7 @@ pub(crate) fn add_line(spans: &mut Runs, line: u32) -> Result<(), NoMemory>
     insert_line(spans, line)
 }
 
-/// Adds a line to maximal spans, at the place that a search finds. It stays out of the way of the calls that need none.
-#[inline(never)]
+/// Adds a line to maximal spans, at the place that a search finds.
 fn insert_line(spans: &mut Runs, line: u32) -> Result<(), NoMemory>
     requires { AreMaximal spans.old }
     ensures maximal { AreMaximal spans.new }

@@ -19,6 +19,7 @@ struct Asked<'a> {
 }
 
 /// Whether a token is an identifier.
+#[inline]
 fn is_identifier(token: &Token) -> bool
     ensures { result ≡ is_identifier_kind token.now.kind }
 {
@@ -48,6 +49,7 @@ fn question_within<'a>(first: &Token, tokens: &'a [Token]) -> Option<Asked<'a>>
 }
 
 /// `X` or `( X )` behind `defined`.
+#[inline(never)]
 fn question_behind(tokens: &[Token]) -> Option<Asked<'_>>
     ensures is { option_map question result ≡ question_behind tokens.now }
     ensures within { question_len (option_map question result) ≤ length tokens.now }
@@ -63,6 +65,7 @@ fn question_behind(tokens: &[Token]) -> Option<Asked<'_>>
 }
 
 /// The question of a token with what follows it.
+#[inline]
 fn question_at<'a>(token: &Token, behind: &'a [Token]) -> Option<Asked<'a>>
     ensures is { option_map question result ≡ question_at token.now behind.now }
     ensures within { question_len (option_map question result) ≤ length behind.now }
