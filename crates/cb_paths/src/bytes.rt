@@ -1,5 +1,5 @@
 //! A text of bytes, which need not be UTF-8.
-ghost use Rattle.std.specs.Prelude.{◌≡◌, ◌==◌, ◌≤◌, ◌∷◌, [], length, IfOk};
+ghost use Rattle.std.specs.Prelude.{◌≡◌, ◌==◌, ◌≤◌, [], length, take, IfOk};
 ghost use Rattle.cb_paths.specs.Texts.{text_of, IsText};
 
 use crate::memory::NoMemory;
@@ -42,24 +42,6 @@ impl Model for Bytes {
     ghost invariant = { λ b. IsText b.text };
 }
 
-/// A text of one byte, as most punctuators and digits are.
-#[inline]
-fn single(byte: u8) -> Text
-    ensures text { text_of result ≡ byte ∷ [] }
-    ensures kept { IsText result }
-{
-    Text::Short(1, [byte, 0, 0, 0, 0, 0, 0, 0, 0, 0, 0, 0, 0, 0])
-}
-
-/// A text of two bytes.
-#[inline]
-fn pair(first: u8, second: u8) -> Text
-    ensures text { text_of result ≡ first ∷ second ∷ [] }
-    ensures kept { IsText result }
-{
-    Text::Short(2, [first, second, 0, 0, 0, 0, 0, 0, 0, 0, 0, 0, 0, 0])
-}
-
 /// A text of few bytes.
 fn few(bytes: &[u8]) -> Text
     requires { length bytes.now ≤ SHORT }
@@ -98,18 +80,17 @@ fn full(bytes: &[u8]) -> Text
     Text::Full(held)
 }
 
-/// A text of few bytes. Those of one and two bytes, which are most of all, are made without a loop.
+/// A text of few bytes at the front of more. Those behind them are copied too, so that it takes the same time for any number of them.
 #[inline]
-fn short(bytes: &[u8]) -> Text
-    requires { length bytes.now ≤ SHORT }
-    ensures text { text_of result ≡ bytes.now }
+fn front(bytes: &[u8], len: usize) -> Text
+    requires few { len ≤ SHORT }
+    requires more { SHORT ≤ length bytes.now }
+    ensures text { text_of result ≡ take len bytes.now }
     ensures kept { IsText result }
 {
-    match bytes.len() {
-        1 => single(bytes[0]),
-        2 => pair(bytes[0], bytes[1]),
-        _ => few(bytes),
-    }
+    let mut held = [0; SHORT];
+    held.copy_from_slice(&bytes[..SHORT]);
+    Text::Short(len as u8, held)
 }
 
 impl Bytes {
@@ -117,19 +98,32 @@ impl Bytes {
     pub fn new() -> Bytes
         ensures { result ≡ [] }
     {
-        Bytes { text: short(&[]) }
+        Bytes { text: few(&[]) }
     }
 
     /// A copy of these bytes.
-    #[inline]
     pub fn from_slice(alloc: Global, bytes: &[u8]) -> Result<Bytes, NoMemory>
         ensures { IfOk result (λ b. b ≡ bytes.now) }
     {
         if bytes.len() <= SHORT {
-            return Ok(Bytes { text: short(bytes) });
+            return Ok(Bytes { text: few(bytes) });
         }
         let text = long(alloc, bytes)?;
         Ok(Bytes { text })
+    }
+
+    /// A copy of so many bytes at the front of these. It is made faster than by `from_slice` where some more bytes follow.
+    #[inline]
+    pub fn from_front(alloc: Global, bytes: &[u8], len: usize) -> Result<Bytes, NoMemory>
+        requires { len ≤ length bytes.now }
+        ensures { IfOk result (λ b. b ≡ take len bytes.now) }
+    {
+        if len <= SHORT && SHORT <= bytes.len() {
+            return Ok(Bytes {
+                text: front(bytes, len),
+            });
+        }
+        Bytes::from_slice(alloc, &bytes[..len])
     }
 
     /// A second text of the same bytes.
@@ -187,6 +181,10 @@ mod tests {
             let bytes = Bytes::from_slice(rt.alloc(), text)?;
             let copy = bytes.copy(rt.alloc())?;
             assert_eq!(rt; copy.as_slice(), text);
+            for len in 0..text.len() {
+                let front = Bytes::from_front(rt.alloc(), text, len)?;
+                assert_eq!(rt; front.as_slice(), &text[..len]);
+            }
             assert_eq!(rt; copy.len(), text.len());
             assert_eq!(rt; bytes.is_empty(), text.is_empty());
         }

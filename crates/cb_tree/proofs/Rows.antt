@@ -121,23 +121,24 @@ plain_no_feed white token kinds.Comment bs len k p h l = absurd (cc)
 plain_no_feed white token kinds.LineEnd bs len k p h l = absurd (cc)
 plain_no_feed white token (kinds.Token kind) bs len k p h l = token bs kind len k h l
 
+-- bytes behind others without an LF
+pub no_feed_behind : (bytes : List ℕ) (n m : ℕ) → ((k : ℕ) → k < n → is_line_feed (get_or bytes k 0) ≡ false)
+    → ((k : ℕ) → k < m → is_line_feed (get_or (drop n bytes) k 0) ≡ false) → (k : ℕ) → k < n + m → is_line_feed (get_or bytes k 0) ≡ false
+no_feed_behind bytes n m h g k l =
+    elim (cases_lt k n) [
+      | inl lt ↦ h k lt
+      | inr ge ↦ (
+          let i : n + (k - n) ≡ k = omega arith in
+          ap (λ (j : ℕ). is_line_feed (get_or bytes j 0)) (sym i) ∙ (ap is_line_feed (sym (get_or-drop n bytes (k - n) 0)) ∙ g (k - n) (omega arith))
+          )
+    ]
+
 pub no_feed_more : ((bs : List ℕ) (len k : ℕ) → StandsFirst bs (first.Piece kinds.White len) → k < len → is_line_feed (get_or bs k 0) ≡ false)
     → ((bs : List ℕ) (kind : TokenKind) (len k : ℕ) → StandsFirst bs (first.Piece (kinds.Token kind) len) → k < len → is_line_feed (get_or bs k 0) ≡ false)
     → (kind : PieceKind) (bytes : List ℕ) (n len m : ℕ) → is_plain kind ≡ true → StandsFirst (drop n bytes) (first.Piece kind len) → m ≡ n + len
     → ((k : ℕ) → k < n → is_line_feed (get_or bytes k 0) ≡ false) → (k : ℕ) → k < m → is_line_feed (get_or bytes k 0) ≡ false
 no_feed_more white token kind bytes n len m p stands e h k l =
-    elim (cases_lt k n) [
-      | inl lt ↦ h k lt
-      | inr ge ↦ (
-          let i : n + (k - n) ≡ k = omega arith in
-          ap (λ (j : ℕ). is_line_feed (get_or bytes j 0)) (sym i)
-          ∙ (ap is_line_feed (sym (get_or-drop n bytes (k - n) 0)) ∙ plain_no_feed white token kind (drop n bytes) len (k - n) p stands (omega arith))
-          )
-    ]
-
--- the bytes of a piece
-pub sliced : (bytes : List ℕ) (n len : ℕ) → take (n + len - n) (drop n bytes) ≡ take len (drop n bytes)
-sliced bytes n len = let e : n + len - n ≡ len = omega arith in ap (λ (i : ℕ). take i (drop n bytes)) e
+    no_feed_behind bytes n len h (λ i g. plain_no_feed white token kind (drop n bytes) len i p stands g) k (omega arith)
 
 pub longer : (bytes : List ℕ) (kind : PieceKind) (len : ℕ) → StandsFirst bytes (first.Piece kind len) → 0 < len
 longer bytes kind len h = some_bytes bytes kind len h.1
@@ -170,18 +171,6 @@ row_ends spaced spaced' counted counted' bytes from before after n h e stands =
 -- it has a mark more
 pub one_more : (bytes : List ℕ) (n : ℕ) → StandsFirst (drop n bytes) (first.Piece kinds.LineEnd 1) → n + 1 ≤ length bytes
 one_more bytes n h = let within : 1 ≤ length (drop n bytes) = h.1.within in omega (arith, within, length-drop n bytes)
-
--- bytes behind others without an LF
-pub no_feed_behind : (bytes : List ℕ) (n m : ℕ) → ((k : ℕ) → k < n → is_line_feed (get_or bytes k 0) ≡ false)
-    → ((k : ℕ) → k < m → is_line_feed (get_or (drop n bytes) k 0) ≡ false) → (k : ℕ) → k < n + m → is_line_feed (get_or bytes k 0) ≡ false
-no_feed_behind bytes n m h g k l =
-    elim (cases_lt k n) [
-      | inl lt ↦ h k lt
-      | inr ge ↦ (
-          let i : n + (k - n) ≡ k = omega arith in
-          ap (λ (j : ℕ). is_line_feed (get_or bytes j 0)) (sym i) ∙ (ap is_line_feed (sym (get_or-drop n bytes (k - n) 0)) ∙ g (k - n) (omega arith))
-          )
-    ]
 
 -- white space, if there is any
 row_blank : (bytes : List ℕ) (white : ℕ) → (0 < white → StandsFirst bytes (first.Piece kinds.White white)) → GoesInRow false bytes [] [] (nat_lt 0 white) white

@@ -50,7 +50,7 @@ fn pass_piece(
                 Ok(None)
             }
             PieceKind::Token(kind) => {
-                keep_token(alloc, tokens, kind, &walk.rest()[..piece.len], spaced)?;
+                keep_token(alloc, tokens, kind, walk.rest(), piece.len, spaced)?;
                 let token = Start {
                     kind,
                     len: piece.len,
@@ -176,8 +176,8 @@ fn read_other(
 {
     let from = tokens.len() as u32;
     let mut counted = counted;
-    let text = &walk.rest()[..second.token.len];
-    keep_token(alloc, tokens, second.token.kind, text, second.spaced)?;
+    let Start { kind, len } = second.token;
+    keep_token(alloc, tokens, kind, walk.rest(), len, second.spaced)?;
     pass_counted(walk, second.token, &mut counted)?;
     read_behind(alloc, walk, tokens, &mut counted, false)?;
     let to = tokens.len() as u32;

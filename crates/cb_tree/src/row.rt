@@ -1,5 +1,5 @@
 //! Directive lines in rows: white space and tokens on one line are read before the walk goes past them, once for all.
-ghost use Rattle.std.specs.Prelude.{ℕ, ◌≡◌, ◌+◌, ◌<◌, ◌≤◌, ◌∷◌, ◌++◌, [], Bool, List, true, false, length, drop, slice_index, Some, IfOk, IfSome, OnOk};
+ghost use Rattle.std.specs.Prelude.{ℕ, ◌≡◌, ◌+◌, ◌<◌, ◌≤◌, ◌∷◌, ◌++◌, [], Bool, List, true, false, length, take, drop, slice_index, Some, IfOk, IfSome, OnOk};
 ghost use Rattle.cb_lines.specs.Marks.{bytes_of, is_line_feed};
 ghost use Rattle.cb_tokens.specs.Cut.{StandsFirst};
 ghost use Rattle.cb_tokens.specs.Plain.{is_plain};
@@ -12,6 +12,7 @@ use cb_lines::{Lines, Walk, one_line};
 use cb_paths::{Bytes, NoMemory};
 use cb_tokens::{
     First, PieceKind, Token, TokenKind, begins_with_line_end, first_piece, pieces_end_with_lines,
+    white_front,
 };
 use std::alloc::Global;
 
@@ -37,18 +38,20 @@ pub(crate) enum InRow {
     Beyond,
 }
 
-/// Keeps a token of these bytes.
+/// Keeps a token of so many bytes at the front of these.
 #[inline]
 pub(crate) fn keep_token(
     alloc: Global,
     tokens: &mut Vec<Token>,
     kind: TokenKind,
-    text: &[u8],
+    bytes: &[u8],
+    len: usize,
     spaced: bool,
 ) -> Result<(), NoMemory>
-    ensures { OnOk result (tokens.new.items ≡ tokens.old.items ++ record { kind = kind; text = text.now; spaced = spaced } ∷ []) }
+    requires { len ≤ length bytes.now }
+    ensures { OnOk result (tokens.new.items ≡ tokens.old.items ++ record { kind = kind; text = take len bytes.now; spaced = spaced } ∷ []) }
 {
-    let text = Bytes::from_slice(alloc, text)?;
+    let text = Bytes::from_front(alloc, bytes, len)?;
     tokens.push(Token { kind, text, spaced })?;
     Ok(())
 }
@@ -95,7 +98,8 @@ fn keep_piece(
     let len = reach.len + piece.len;
     match piece.kind {
         PieceKind::Token(kind) => {
-            keep_token(alloc, tokens, kind, &bytes[reach.len..len], reach.spaced)?;
+            let (_, ahead) = bytes.split_at(reach.len);
+            keep_token(alloc, tokens, kind, ahead, piece.len, reach.spaced)?;
             Ok(Reach {
                 len,
                 spaced: false,
@@ -108,6 +112,30 @@ fn keep_piece(
             ended: false,
         }),
         PieceKind::Comment | PieceKind::LineEnd => unreachable!(),
+    }
+}
+
+/// Goes past white space, unless it goes over the end of the row.
+#[inline]
+fn skip_blanks(bytes: &[u8], reach: Reach, end: usize) -> Reach
+    requires { (reach.len ≤ end) × (end ≤ length bytes.now) }
+    ensures goes { (spaced : Bool) (before : List Token) (after : List Token) → GoesInRow spaced bytes.now before after reach.spaced reach.len
+        → GoesInRow spaced bytes.now before after result.spaced result.len }
+    ensures within { (reach.len ≤ result.len) × (result.len ≤ end) }
+    ensures no_feed { ((k : ℕ) → k < reach.len → is_line_feed (slice_index bytes.now k) ≡ false) → (k : ℕ) → k < result.len
+        → is_line_feed (slice_index bytes.now k) ≡ false }
+    ensures ended { result.ended ≡ reach.ended }
+{
+    one_line();
+    let (_, ahead) = bytes.split_at(reach.len);
+    let white = white_front(ahead);
+    if white == 0 || end - reach.len < white {
+        return reach;
+    }
+    Reach {
+        len: reach.len + white,
+        spaced: true,
+        ended: reach.ended,
     }
 }
 
@@ -133,6 +161,7 @@ pub(crate) fn read_row(
         ended: false,
     };
     'pieces: loop {
+        reach = skip_blanks(bytes, reach, end);
         match next_in_row(bytes, reach.len, end) {
             InRow::Plain(piece) => reach = keep_piece(alloc, bytes, reach, piece, tokens)?,
             InRow::LineEnd => {

@@ -1,5 +1,5 @@
-use Rattle.std.proofs.Common.{drop, arith}
-use Rattle.cb_tree.proofs.Rows.{row_white, row_token, sliced, one_kept}
+use Rattle.std.proofs.Common.{take, drop, ap, arith}
+use Rattle.cb_tree.proofs.Rows.{row_white, row_token, one_kept}
 use Rattle.cb_tree.proofs.Pieces.{some_bytes}
 use Rattle.cb_tokens.specs.declared.token.PieceKind.TheVariants as kinds
 use Rattle.cb_tree.proofs.row.keep_piece.Goals as goal
@@ -8,7 +8,7 @@ pub returns-in_ok-keep_token-in-Token-clause-goes : goal.returns-in_ok-keep_toke
 returns-in_ok-keep_token-in-Token-clause-goes c = λ spaced before h.
     rw c.in_ok-keep_token-in-Token.ensures
     (row_token c.one_line.ensures spaced c.args.reach.spaced c.args.bytes.now before c.args.tokens.now.items c.args.reach.len c.args.piece.len c.in-Token.kind _ h
-    (rw c.in-Token.is at c.requires.stands) (sliced c.args.bytes.now c.args.reach.len c.args.piece.len))
+    (rw c.in-Token.is at c.requires.stands) (ap (take c.args.piece.len) c.split_at.ensures.back))
 
 pub returns-in_ok-keep_token-in-Token-clause-few : goal.returns-in_ok-keep_token-in-Token-clause-few
 returns-in_ok-keep_token-in-Token-clause-few c =
