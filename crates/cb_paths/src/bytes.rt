@@ -101,7 +101,8 @@ impl Bytes {
         Bytes { text: few(&[]) }
     }
 
-    /// A copy of these bytes.
+    /// A copy of these bytes. It stays out of the way of `from_front`.
+    #[inline(never)]
     pub fn from_slice(alloc: Global, bytes: &[u8]) -> Result<Bytes, NoMemory>
         ensures { IfOk result (λ b. b ≡ bytes.now) }
     {

@@ -4,7 +4,7 @@ use Prim.Native.Nat.{zero, suc}
 use Rattle.std.proofs.lemmas.Bool.{cases_lt, ltb-true, lt-ltb, le-ltb}
 use Rattle.std.proofs.lemmas.List.{append-nil, drop-drop, drop-map, length-map, length-take-le}
 use Rattle.cb_lines.specs.declared.mark.Mark.{Mark}
-use Rattle.cb_lines.specs.Marks.{bytes_of, is_line_feed}
+use Rattle.cb_lines.specs.Marks.{bytes_of, first_line, is_line_feed}
 use Rattle.cb_lines.specs.Lines.{with_line, with_lines, StandOn}
 use Rattle.cb_tokens.specs.declared.token.Token.{Token}
 use Rattle.cb_tokens.specs.declared.token.TokenKind.{TokenKind}
@@ -18,7 +18,7 @@ use Rattle.cb_tree.specs.declared.node.NodeKind.{NodeKind}
 use Rattle.cb_tree.specs.declared.opening.Hash.{Hash}
 use Rattle.cb_tree.specs.Kinds.{is_hash_text}
 use Rattle.cb_tree.specs.Heads.{hash_text, hash_token, name_of, name_token}
-use Rattle.cb_tree.specs.Reads.{ReadsDirective, DirectiveGoes, DirectiveStands, GoesInRow, row_counted}
+use Rattle.cb_tree.specs.Reads.{ReadsDirective, DirectiveGoes, DirectiveStands, GoesInRow, IsRow, row_counted}
 use Rattle.cb_tree.proofs.Pieces.{some_bytes}
 use Rattle.cb_tree.proofs.Runs.{one_line}
 use Rattle.cb_tree.proofs.Directives.{directive_white, directive_token, directive_ends_line, hash_start, goes_none, goes_on}
@@ -204,6 +204,30 @@ lead_reads once rest j n hash name len line stands is_hash text le on goes =
     ap (with_line line) (once line (take n rest) [] (some_taken n rest j stands) (stand_front line n (len - n) rest on)) ∙ again once line [] in
     let end : drop (len - n) (drop n rest) ≡ drop len rest = behind_both n (len - n) rest ∙ ap (λ (i : ℕ). drop i rest) parts in
     rw (sym kept, sym same, sym end) (g.goes rest (hash_token hash ∷ []) first)
+
+counted_once : Once → (b : Bool) (line : ℕ) → (if b then with_line line (with_line line []) else with_line line []) ≡ with_line line []
+counted_once once true line = again once line []
+counted_once once false line = refl
+
+-- no LF stands in a lead and what stands behind it in its row
+pub plain_lead : (bytes behind : List ℕ) (n m : ℕ) → behind ≡ drop n bytes → ((k : ℕ) → k < n → is_line_feed (get_or bytes k 0) ≡ false)
+    → ((k : ℕ) → k < m → is_line_feed (get_or behind k 0) ≡ false) → (k : ℕ) → k < n + m → is_line_feed (get_or bytes k 0) ≡ false
+plain_lead bytes behind n m e h g =
+    no_feed_behind bytes n m h (subst (λ (bs : List ℕ). (k : ℕ) → k < m → is_line_feed (get_or bs k 0) ≡ false) e g)
+
+-- what stands behind a lead in its row adds no line to that of the lead
+pub behind_lead : Once → (from : List Mark) (behind counted : List ℕ) (before after : List Token) (n m end : ℕ) (spaced : Bool) → GoesInRow false behind before after spaced m
+    → behind ≡ drop n (bytes_of from) → IsRow end from → n + m ≤ end → ((k : ℕ) → k < n → is_line_feed (get_or (bytes_of from) k 0) ≡ false)
+    → ((k : ℕ) → k < m → is_line_feed (get_or behind k 0) ≡ false) → counted ≡ with_line (first_line from) []
+    → DirectiveGoes false counted (drop n from) before after (Some spaced) counted (drop m (drop n from))
+behind_lead once from behind counted before after n m end spaced goes e row within h g is =
+    let line : ℕ = first_line from in
+    let plain = plain_lead (bytes_of from) behind n m e h g in
+    let on : StandOn line (take (n + m) from) = row (n + m) within (λ k l. plain k (omega (arith, l))) in
+    let all = goes (drop n from) line counted (e ∙ bytes_behind n (bytes_of from) from refl) (stand_behind line n m from on) in
+    let same : row_counted (length before) (length after) line counted ≡ counted =
+    rw is (counted_once once (nat_lt (length before) (length after)) line) in
+    subst (λ (set : List ℕ). DirectiveGoes false counted (drop n from) before after (Some spaced) set (drop m (drop n from))) same all
 
 -- no LF stands in a #, white space and a name
 pub lead_no_feed : ((bs : List ℕ) (kind : TokenKind) (len k : ℕ) → StandsFirst bs (first.Piece (kinds.Token kind) len) → k < len → is_line_feed (get_or bs k 0) ≡ false)

@@ -1,8 +1,8 @@
 -- What the private steps of reading a source's nodes say. No public clause names these words.
-use Rattle.std.specs.Prelude.{◌≡◌, ◌⊎◌, ℕ, ◌+◌, ◌<◌, ◌≤◌, Bool, true, nat_lt, if◌then◌else◌, List, [], ◌∷◌, ◌++◌, length, take, drop, map, Option, Some, None}
+use Rattle.std.specs.Prelude.{◌≡◌, ◌⊎◌, ℕ, ◌+◌, ◌<◌, ◌≤◌, Bool, true, false, nat_lt, slice_index, if◌then◌else◌, List, [], ◌∷◌, ◌++◌, length, take, drop, map, Option, Some, None}
 use Rattle.std.specs.List.{flat_map}
 use Rattle.cb_lines.specs.declared.mark.Mark.{Mark}
-use Rattle.cb_lines.specs.Marks.{bytes_of}
+use Rattle.cb_lines.specs.Marks.{bytes_of, first_line, is_line_feed}
 use Rattle.cb_lines.specs.Lines.{lines_of, with_line, StandOn}
 use Rattle.cb_tokens.specs.declared.token.Token.{Token}
 use Rattle.cb_tokens.specs.declared.token.PieceKind.TheVariants as piece
@@ -140,6 +140,10 @@ abbrev pub IsInRow : List ℕ → ℕ → ℕ → InRow → Type 0
 IsInRow bytes at end (row.Plain p) = StandsFirst (drop at bytes) (first.Piece p.kind p.len) × (at + p.len ≤ end) × (is_plain p.kind ≡ true)
 IsInRow bytes at end row.LineEnd = StandsFirst (drop at bytes) (first.Piece piece.LineEnd 1)
 IsInRow bytes at end row.Beyond = Unit {0}
+
+-- so many marks are a row: those up to the first LF among them stand on the line of the first one
+abbrev pub IsRow : ℕ → List Mark → Type 0
+IsRow end ms = (count : ℕ) → count ≤ end → ((k : ℕ) → k + 1 < count → is_line_feed (slice_index (bytes_of ms) k) ≡ false) → StandOn (first_line ms) (take count ms)
 
 -- counted lines with that of a row, where tokens of it were kept
 abbrev pub row_counted : ℕ → ℕ → ℕ → List ℕ → List ℕ

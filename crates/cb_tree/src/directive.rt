@@ -7,7 +7,7 @@ ghost use Rattle.cb_tokens.specs.declared.first.First.{First};
 ghost use Rattle.cb_tree.specs.Kinds.{is_hash_text, kind_behind_hash};
 ghost use Rattle.cb_tokens.specs.declared.token.Token.{Token};
 ghost use Rattle.cb_tree.specs.Heads.{Adds, IsNamed, IsUnnamed, hash_token, name_of, name_token, node_with};
-ghost use Rattle.cb_tree.specs.Reads.{Reads, ReadsDirective, DirectiveGoes, HeadReads, HeadTells, Tells};
+ghost use Rattle.cb_tree.specs.Reads.{Reads, ReadsDirective, DirectiveGoes, HeadReads, HeadTells, IsRow, Tells};
 
 use crate::fault::BuildFault;
 use crate::kind::kind_behind_hash;
@@ -15,7 +15,7 @@ use crate::node::NodeKind;
 use crate::nodes::{Head, part};
 use crate::opening::{Hash, Lead, Second, hash_of, kind_ahead, lead_ahead, pass_to_second};
 use crate::reading::{Start, look_ahead, pass_ahead, pass_counted};
-use crate::row::{keep_token, pass_row};
+use crate::row::{keep_token, pass_row, read_row};
 use cb_lines::{Lines, Walk, one_line};
 use cb_tokens::{PieceKind, Token, TokenKind};
 use std::alloc::Global;
@@ -88,6 +88,38 @@ fn read_behind(
     }
 }
 
+/// Reads a directive line behind its lead, whose line is counted, and keeps its tokens. What stands on that line is read before the
+/// walk goes past the lead, so that it goes past both at once.
+fn read_behind_lead(
+    alloc: Global,
+    walk: &mut Walk,
+    tokens: &mut Vec<Token>,
+    counted: &mut Lines,
+    lead: Lead,
+) -> Result<(), BuildFault>
+    requires within { (0 < lead.len) × (lead.len ≤ lead.end) × (lead.end ≤ length walk.old) }
+    requires no_feed { (k : ℕ) → k < lead.len → is_line_feed (slice_index (bytes_of walk.old) k) ≡ false }
+    requires row { IsRow lead.end walk.old }
+    requires counted { counted.old ≡ with_line (first_line walk.old) [] }
+    ensures goes { OnOk result (DirectiveGoes false counted.old (drop lead.len walk.old) tokens.old.items tokens.new.items None counted.new walk.new) }
+    ensures shorter { OnOk result (length walk.new + lead.len ≤ length walk.old) }
+    ensures few { OnOk result (length counted.new + length walk.new + lead.len ≤ length counted.old + length walk.old) }
+    ensures few_tokens { OnOk result (length tokens.new.items + length walk.new + lead.len ≤ length tokens.old.items + length walk.old) }
+    ensures tells { IfErr result (λ fault. (own : List Token) → HeadTells own false counted.old (drop lead.len walk.old) fault) }
+{
+    one_line();
+    let (_, behind) = walk.rest().split_at(lead.len);
+    let reach = read_row(alloc, behind, lead.end - lead.len, tokens, false)?;
+    let len = lead.len + reach.len;
+    if reach.ended {
+        walk.pass_row(len + 1);
+        return Ok(());
+    }
+    walk.pass_row(len);
+    read_behind(alloc, walk, tokens, counted, reach.spaced)?;
+    Ok(())
+}
+
 /// Reads a directive line whose lead stands in one row.
 fn read_led(
     alloc: Global,
@@ -97,8 +129,9 @@ fn read_led(
     lead: Lead,
 ) -> Result<Head, BuildFault>
     requires room { length tokens.old.items + length walk.old < 2 ^ 32 }
-    requires within { (0 < lead.len) × (lead.len ≤ length walk.old) }
+    requires within { (0 < lead.len) × (lead.len ≤ lead.end) × (lead.end ≤ length walk.old) }
     requires no_feed { (k : ℕ) → k < lead.len → is_line_feed (slice_index (bytes_of walk.old) k) ≡ false }
+    requires row { IsRow lead.end walk.old }
     requires named { IsNamed (name_of lead.kind) lead.kind }
     requires reads { ReadsDirective walk.old (hash_token hash ∷ name_token lead.kind lead.spaced ∷ []) false (with_line (first_line walk.old) []) (drop lead.len walk.old) }
     ensures reads { IfOk result (λ head. (own : List Token) × Adds tokens.old.items tokens.new.items head own × Reads walk.old (node_with own head ∷ []) walk.new) }
@@ -109,8 +142,7 @@ fn read_led(
 {
     let from = tokens.len() as u32;
     let mut counted = Lines::single(alloc, walk.line());
-    walk.pass_row(lead.len);
-    read_behind(alloc, walk, tokens, &mut counted, false)?;
+    read_behind_lead(alloc, walk, tokens, &mut counted, lead)?;
     Ok(Head {
         from,
         to: tokens.len() as u32,

@@ -3,14 +3,13 @@
 //! A tree keeps no `#`, and no name of a directive that tells its kind.
 ghost use Rattle.std.specs.Prelude.{ℕ, ◌≡◌, ◌+◌, ◌-◌, ◌<◌, ◌≤◌, ◌∷◌, [], Bool, List, length, take, drop, slice_index, true, false, IfOk, IfErr, IfNone, IfSome, OnOk};
 ghost use Rattle.cb_lines.specs.declared.mark.Mark.{Mark};
-ghost use Rattle.cb_lines.specs.Marks.{bytes_of, first_line, is_line_feed};
-ghost use Rattle.cb_lines.specs.Lines.{StandOn};
+ghost use Rattle.cb_lines.specs.Marks.{bytes_of, is_line_feed};
 ghost use Rattle.cb_tokens.specs.Cut.{StandsFirst};
 ghost use Rattle.cb_tokens.specs.declared.first.First.{First};
 ghost use Rattle.cb_tokens.specs.declared.token.Token.{Token};
 ghost use Rattle.cb_tree.specs.Kinds.{is_hash_text, kind_behind_hash};
 ghost use Rattle.cb_tree.specs.Heads.{hash_text, name_of, name_token, IsNamed, IsUnnamed};
-ghost use Rattle.cb_tree.specs.Reads.{GoesInRow, ReadsDirective, StandsBehind, Tells};
+ghost use Rattle.cb_tree.specs.Reads.{GoesInRow, IsRow, ReadsDirective, StandsBehind, Tells};
 
 use crate::fault::BuildFault;
 use crate::kind::named_kind;
@@ -97,6 +96,8 @@ pub(crate) struct Lead {
     pub(crate) spaced: bool,
     /// The kind of the directive.
     pub(crate) kind: NodeKind,
+    /// Where its row ends.
+    pub(crate) end: usize,
 }
 
 /// A name that tells the kind of a directive, and stands at a place of a row that ends at another one.
@@ -121,9 +122,9 @@ fn name_in_row(bytes: &[u8], at: usize, end: usize) -> Option<(NodeKind, usize)>
 /// The lead of a directive line, if it stands in one row.
 pub(crate) fn lead_ahead(walk: &Walk, hash: Start) -> Option<Lead>
     requires { StandsFirst (bytes_of walk.now) (First.Piece (PieceKind.Token hash.kind) hash.len) }
-    ensures within { IfSome result (λ lead. (hash.len ≤ lead.len) × (lead.len ≤ length walk.now)) }
+    ensures within { IfSome result (λ lead. (hash.len ≤ lead.len) × (lead.len ≤ lead.end) × (lead.end ≤ length walk.now)) }
     ensures no_feed { IfSome result (λ lead. (k : ℕ) → k < lead.len → is_line_feed (slice_index (bytes_of walk.now) k) ≡ false) }
-    ensures on_line { IfSome result (λ lead. StandOn (first_line walk.now) (take lead.len walk.now)) }
+    ensures row { IfSome result (λ lead. IsRow lead.end walk.now) }
     ensures named { IfSome result (λ lead. IsNamed (name_of lead.kind) lead.kind) }
     ensures goes { IfSome result (λ lead. GoesInRow false (drop hash.len (bytes_of walk.now)) [] (name_token lead.kind lead.spaced ∷ []) false (lead.len - hash.len)) }
 {
@@ -143,6 +144,7 @@ pub(crate) fn lead_ahead(walk: &Walk, hash: Start) -> Option<Lead>
         len: hash.len + white + len,
         spaced: white > 0,
         kind,
+        end,
     })
 }
 

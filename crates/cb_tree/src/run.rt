@@ -86,8 +86,8 @@ fn pass_piece(
     }
 }
 
-/// Reads a run of text on to its end, and answers its counted lines, of which some were known.
-pub(crate) fn read_on(walk: &mut Walk, known: Lines, place: Place) -> Result<Lines, BuildFault>
+/// Reads lines and pieces of a run of text to its end, and answers its counted lines, of which some were known.
+fn read_lines(walk: &mut Walk, known: Lines, place: Place) -> Result<Lines, BuildFault>
     ensures reads { IfOk result (λ counted. (ms : List Mark) → ReadsRun ms place known walk.old → Reads ms (text_node counted ∷ []) walk.new) }
     ensures shorter { OnOk result (length walk.new ≤ length walk.old) }
     ensures few { IfOk result (λ counted. length counted + length walk.new ≤ length known + length walk.old) }
@@ -106,6 +106,20 @@ pub(crate) fn read_on(walk: &mut Walk, known: Lines, place: Place) -> Result<Lin
             None => return Ok(counted),
         }
     }
+}
+
+/// Reads a run of text on to its end, and answers its counted lines, of which some were known. Most runs between directives are one
+/// line, so it looks first whether the run has ended.
+pub(crate) fn read_on(walk: &mut Walk, known: Lines, place: Place) -> Result<Lines, BuildFault>
+    ensures reads { IfOk result (λ counted. (ms : List Mark) → ReadsRun ms place known walk.old → Reads ms (text_node counted ∷ []) walk.new) }
+    ensures shorter { OnOk result (length walk.new ≤ length walk.old) }
+    ensures few { IfOk result (λ counted. length counted + length walk.new ≤ length known + length walk.old) }
+    ensures tells { IfErr result (λ fault. (ms : List Mark) → ReadsRun ms place known walk.old → Tells ms fault) }
+{
+    if ends_run(place, walk.rest()) {
+        return Ok(known);
+    }
+    read_lines(walk, known, place)
 }
 
 /// Reads a run of text from its first token on, and answers its counted lines.

@@ -46,4 +46,5 @@ pub read_led-requires-clause-reads : goal.read_led-requires-clause-reads
 read_led-requires-clause-reads c =
     let lead = rw c.in-Some.is at c.lead_ahead.ensures in
     lead_reads c.one_line.ensures c.args.walk.now c.args.token.kind c.args.token.len c.hash_of-hash.result (name_token c.in-Some.lead.kind c.in-Some.lead.spaced) c.in-Some.lead.len
-    (first_line c.args.walk.now) c.requires.stands c.requires.hash (rw c.rest.ensures at c.hash_of-hash.ensures) lead.within.0 lead.on_line lead.goes
+    (first_line c.args.walk.now) c.requires.stands c.requires.hash (rw c.rest.ensures at c.hash_of-hash.ensures) lead.within.0
+    (lead.row c.in-Some.lead.len lead.within.1 (λ k h. lead.no_feed k (omega (arith, h)))) lead.goes

@@ -1,4 +1,4 @@
-use Rattle.std.proofs.Common.{[], ◌∷◌, false, refl, subst, ◌∙◌}
+use Rattle.std.proofs.Common.{[], ◌∷◌, false, drop, refl, subst, ◌∙◌}
 use Rattle.std.proofs.lemmas.Result.{err_from_is_err_and}
 use Rattle.cb_tokens.specs.declared.token.TokenKind.TheVariants as token
 use Rattle.cb_tree.specs.Nodes.{Node}
@@ -9,25 +9,25 @@ use Rattle.cb_tree.proofs.directive.read_led.Goals as goal
 
 pub returns-clause-reads : goal.returns-clause-reads
 returns-clause-reads c =
-    let reads : ReadsDirective c.args.walk.now (hash_token c.args.hash ∷ name_token c.args.lead.kind c.args.lead.spaced ∷ []) false c.single-counted.result c.pass_row.new.self =
-    rw (c.single-counted.ensures, c.line.ensures, c.pass_row.ensures) c.requires.reads in
-    let g = c.in_ok-read_behind.ensures.goes in (
+    let reads : ReadsDirective c.args.walk.now (hash_token c.args.hash ∷ name_token c.args.lead.kind c.args.lead.spaced ∷ []) false c.single-counted.result (drop c.args.lead.len c.args.walk.now) =
+    rw (c.single-counted.ensures, c.line.ensures) c.requires.reads in
+    let g = c.in_ok-read_behind_lead.ensures.goes in (
       tokens_with c.args.lead.kind c.args.hash c.args.lead.spaced g.kept,
       record {
         kept = g.kept;
         added = g.added;
         from_is = c.len-from.ensures ∙ c.args.tokens.now.ok.0;
-        to_is = c.len.ensures ∙ c.read_behind.new.tokens.ok.0;
+        to_is = c.len.ensures ∙ c.read_behind_lead.new.tokens.ok.0;
         own_is = refl;
       },
-      subst (λ (n : Node). Reads c.args.walk.now (n ∷ []) c.read_behind.new.walk)
-          (named_node token.Identifier c.args.lead.kind c.args.hash c.args.lead.spaced (name_of c.args.lead.kind) g.kept c.read_behind.new.counted refl c.requires.named)
+      subst (λ (n : Node). Reads c.args.walk.now (n ∷ []) c.read_behind_lead.new.walk)
+          (named_node token.Identifier c.args.lead.kind c.args.hash c.args.lead.spaced (name_of c.args.lead.kind) g.kept c.read_behind_lead.new.counted refl c.requires.named)
           (g.goes c.args.walk.now (hash_token c.args.hash ∷ name_token c.args.lead.kind c.args.lead.spaced ∷ []) reads),
     )
 
-pub returns-in_err-read_behind-clause-tells : goal.returns-in_err-read_behind-clause-tells
-returns-in_err-read_behind-clause-tells c =
+pub returns-in_err-read_behind_lead-clause-tells : goal.returns-in_err-read_behind_lead-clause-tells
+returns-in_err-read_behind_lead-clause-tells c =
     let p = err_from_is_err_and c.from_residual.result c.from_residual.ensures.1 in
-    let reads : ReadsDirective c.args.walk.now (hash_token c.args.hash ∷ name_token c.args.lead.kind c.args.lead.spaced ∷ []) false c.single-counted.result c.pass_row.new.self =
-    rw (c.single-counted.ensures, c.line.ensures, c.pass_row.ensures) c.requires.reads in
-    rw (p.1, p.2) (c.in_err-read_behind.ensures.tells (hash_token c.args.hash ∷ name_token c.args.lead.kind c.args.lead.spaced ∷ []) c.args.walk.now reads)
+    let reads : ReadsDirective c.args.walk.now (hash_token c.args.hash ∷ name_token c.args.lead.kind c.args.lead.spaced ∷ []) false c.single-counted.result (drop c.args.lead.len c.args.walk.now) =
+    rw (c.single-counted.ensures, c.line.ensures) c.requires.reads in
+    rw (p.1, p.2) (c.in_err-read_behind_lead.ensures.tells (hash_token c.args.hash ∷ name_token c.args.lead.kind c.args.lead.spaced ∷ []) c.args.walk.now reads)

@@ -9,13 +9,10 @@ returns-clause-no_feed c =
     lead_no_feed c.pieces_end_with_lines.ensures.token c.args.hash.kind (bytes_of c.args.walk.now) c.args.hash.len c.white_front-white.result c.in_ok-kind.len c.requires
     (rw behind at c.white_front-white.ensures.no_feed) (rw behind at c.in_ok-kind.ensures.0)
 
-pub returns-clause-on_line : goal.returns-clause-on_line
-returns-clause-on_line c =
-    let behind : c.split_at.result.1.now ≡ drop c.args.hash.len (bytes_of c.args.walk.now) = c.split_at.ensures.back ∙ ap (drop c.args.hash.len) c.rest.ensures in
-    let plain = lead_no_feed c.pieces_end_with_lines.ensures.token c.args.hash.kind (bytes_of c.args.walk.now) c.args.hash.len c.white_front-white.result c.in_ok-kind.len c.requires
-    (rw behind at c.white_front-white.ensures.no_feed) (rw behind at c.in_ok-kind.ensures.0) in
-    c.row-end.ensures.one_line (c.args.hash.len + c.white_front-white.result + c.in_ok-kind.len) (omega (arith, c.in_ok-kind.ensures.2)) (λ k h.
-    ap is_line_feed (front_byte c.row-end.result.now (bytes_of c.args.walk.now) k c.row-end.ensures.front (omega (arith, c.in_ok-kind.ensures.2))) ∙ plain k (omega arith))
+pub returns-clause-row : goal.returns-clause-row
+returns-clause-row c = λ count within plain.
+    c.row-end.ensures.one_line count within (λ k h.
+    ap is_line_feed (front_byte c.row-end.result.now (bytes_of c.args.walk.now) k c.row-end.ensures.front (omega (arith, within, h))) ∙ plain k h)
 
 pub returns-clause-goes : goal.returns-clause-goes
 returns-clause-goes c =

@@ -1,7 +1,7 @@
 use Rattle.std.proofs.Common.{◌+◌, ◌≤◌, List, length}
 use Rattle.cb_lines.specs.declared.mark.Mark.{Mark}
 use Rattle.cb_tree.specs.Reads.{ReadsRun}
-use Rattle.cb_tree.proofs.run.read_on.Given as goal
+use Rattle.cb_tree.proofs.run.read_lines.Given as goal
 
 abbrev pub invariant-pieces : goal.invariant-pieces
 invariant-pieces l = record {
