@@ -138,27 +138,6 @@ pub open_behind : (ms : List Mark) (ps : List Piece) (rest : List Mark) (fault :
 open_behind ms ps rest (Bad f) h t = (t.0, open_after ms ps rest f.line h t.1)
 open_behind ms ps rest NoMemory h t = tt
 
-total_is : (x : Node) (xs : List Node) → total_lines (x ∷ xs) ≡ length x.counted + total_lines xs
-total_is x xs = sum_by-cons lines_in x xs
-
--- the lines of the first nodes with those of the next
-total_on : (nodes : List Node) (i : ℕ) (counted : List ℕ) → option_map (λ (n : Node). n.counted) (slice_get nodes i) ≡ Some counted
-    → total_lines (take (suc i) nodes) ≡ total_lines (take i nodes) + length counted
-total_on [] i counted e = absurd (cc)
-total_on (x ∷ xs) zero counted e =
-    let same : x.counted ≡ counted = cc in
-    omega (arith, ap length same, total_is x [])
-total_on (x ∷ xs) (suc i) counted e = omega (arith, total_on xs i counted e, total_is x (take (suc i) xs), total_is x (take i xs))
-
-pub total_more : (nodes : List Node) (i : ℕ) (counted : List ℕ) → option_map (λ (n : Node). n.counted) (slice_get nodes i) ≡ Some counted
-    → total_lines (take (i + 1) nodes) ≡ total_lines (take i nodes) + length counted
-total_more nodes i counted e = rw (add-one i) (total_on nodes i counted e)
-
--- are no more than all
-pub part_fits : (nodes : List Node) (i : ℕ) (counted : List ℕ) → option_map (λ (n : Node). n.counted) (slice_get nodes i) ≡ Some counted
-    → total_lines (take i nodes) + length counted ≤ total_lines nodes
-part_fits [] i counted e = absurd (cc)
-part_fits (x ∷ xs) zero counted e =
-    let same : x.counted ≡ counted = cc in
-    omega (arith, ap length same, total_is x xs)
-part_fits (x ∷ xs) (suc i) counted e = omega (arith, part_fits xs i counted e, total_is x xs, total_is x (take i xs))
+-- the lines of one more node
+pub total_last : (nodes : List Node) (node : Node) → total_lines (nodes ++ node ∷ []) ≡ total_lines nodes + length node.counted
+total_last nodes node = omega (arith, sum_by-append lines_in nodes (node ∷ []))

@@ -1,7 +1,6 @@
 //! From a source to its tree.
 ghost use Rattle.std.specs.Prelude.{List, ℕ, ◌≡◌, ◌⊎◌, ◌≤◌, length, [], None, IfOk, IfErr};
 ghost use Rattle.cb_tree.specs.Sound.{IsRead, Reading, Sound, Unsound};
-ghost use Rattle.cb_tree.specs.Nodes.{total_lines};
 ghost use Rattle.cb_tree.specs.Sections.{first_fault};
 ghost use Rattle.cb_tree.specs.Reads.{IsReadAs};
 ghost use Rattle.cb_tree.specs.declared.fault.BadSource.{BadSource as Fault};
@@ -22,7 +21,6 @@ fn read_source(alloc: Global, source: &[u8]) -> Result<Nodes, BuildFault>
     ensures nodes { IfOk result (λ nodes. IsRead source.now (Sound nodes)) }
     ensures no_fault { IfOk result (λ nodes. first_fault nodes [] ≡ None) }
     ensures few { IfOk result (λ nodes. length nodes ≤ 4194304) }
-    ensures few_lines { IfOk result (λ nodes. total_lines nodes ≤ 4194304) }
     ensures fault { IfErr result (IsReadAs source.now) }
 {
     check_size(source)?;
@@ -30,18 +28,6 @@ fn read_source(alloc: Global, source: &[u8]) -> Result<Nodes, BuildFault>
     let mut walk = Walk::new(&marks);
     let nodes = read_nodes(alloc, &mut walk)?;
     Ok(nodes)
-}
-
-/// The number of the counted lines of all nodes together.
-fn total_of(nodes: &Nodes) -> u64
-    requires { total_lines nodes.now ≤ 4194304 }
-    ensures { result ≡ total_lines nodes.now }
-{
-    let mut total = 0;
-    for at in 0..nodes.len() {
-        total += nodes.counted(at).count();
-    }
-    total
 }
 
 /// A source is read in one way: as the nodes of its one cut, or as its first fault.
@@ -60,12 +46,10 @@ pub fn build(alloc: Global, source: &[u8]) -> Result<Tree, BuildFault>
 {
     one_reading();
     let nodes = read_source(alloc, source)?;
-    let total = total_of(&nodes);
     let ends = group_ends(alloc, &nodes)?;
     let parts = nest(alloc, &nodes)?;
     Ok(Tree {
         nodes,
-        total,
         ends,
         parts,
     })

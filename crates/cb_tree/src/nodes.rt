@@ -2,7 +2,7 @@
 ghost use Rattle.std.specs.Prelude.{◌≡◌, ◌-◌, ◌<◌, ◌≤◌, ◌↔◌, length, take, drop, slice_get, Some, IsTrue};
 ghost use Rattle.std.specs.Option.{option_map};
 ghost use Rattle.cb_tree.specs.Heads.{hash_token, lead_name, node_of, bone_with};
-ghost use Rattle.cb_tree.specs.Nodes.{node_rest};
+ghost use Rattle.cb_tree.specs.Nodes.{node_rest, total_lines};
 ghost use Rattle.cb_tree.specs.Skeleton.{bone_of};
 
 use crate::kind::{has_name, is_line, rest_behind_hash};
@@ -36,19 +36,22 @@ pub(crate) struct Nodes {
     pub(crate) heads: Vec<Head>,
     /// The tokens that are kept of the directives, one behind another.
     pub(crate) tokens: Vec<Token>,
+    /// The number of their counted lines.
+    pub(crate) total: u64,
 }
 
 impl Model for Nodes {
-    ghost use Rattle.std.specs.Prelude.{List, length, map};
+    ghost use Rattle.std.specs.Prelude.{◌≡◌, List, length, map};
     ghost use Rattle.cb_tree.specs.Nodes.{Node};
 
     ghost Value = { List Node };
 
     ghost use Rattle.cb_tree.specs.Heads.{node_in, AreWithin};
+    ghost use Rattle.cb_tree.specs.Nodes.{total_lines};
 
     ghost view = { λ n. map (node_in n.tokens.items) n.heads.items };
 
-    ghost invariant = { λ n. AreWithin (length n.tokens.items) n.heads.items };
+    ghost invariant = { λ n. AreWithin (length n.tokens.items) n.heads.items × (n.total ≡ total_lines (map (node_in n.tokens.items) n.heads.items)) };
 }
 
 /// The tokens from one place to another.
@@ -86,6 +89,13 @@ impl Nodes {
         ensures { result ≡ length self.now }
     {
         self.heads.len()
+    }
+
+    /// The number of the counted lines of all nodes together.
+    pub(crate) fn total(&self) -> u64
+        ensures { result ≡ total_lines self.now }
+    {
+        self.total
     }
 
     /// The kind of a node.

@@ -106,12 +106,14 @@ pub(crate) fn read_nodes(alloc: Global, walk: &mut Walk) -> Result<Nodes, BuildF
 {
     let mut heads = Vec::new(alloc);
     let mut tokens = Vec::new(alloc);
+    let mut total = 0;
     let mut sections = Sections::new(alloc);
     'nodes: loop {
         match read_node(alloc, walk, &mut tokens)? {
             None => break,
             Some(head) => {
                 let line = first_line(head.counted.spans());
+                total += head.counted.count();
                 match sections.after(head.kind, line) {
                     Ok(()) => heads.push(head)?,
                     Err(fault) => return Err(read_out(walk, fault)),
@@ -120,7 +122,11 @@ pub(crate) fn read_nodes(alloc: Global, walk: &mut Walk) -> Result<Nodes, BuildF
         }
     }
     match sections.fault_at_end() {
-        None => Ok(Nodes { heads, tokens }),
+        None => Ok(Nodes {
+            heads,
+            tokens,
+            total,
+        }),
         Some(fault) => Err(BuildFault::Bad(fault)),
     }
 }

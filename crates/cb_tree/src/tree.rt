@@ -20,7 +20,6 @@ use std::marker::Model;
 #[derive(Drop)]
 pub struct Tree {
     pub(crate) nodes: Nodes,
-    pub(crate) total: u64,
     pub(crate) ends: Vec<u32>,
     pub(crate) parts: Parts,
 }
@@ -35,7 +34,7 @@ impl Model for Tree {
 
     ghost view = { λ t. t.nodes };
 
-    ghost invariant = { λ t. IsKept t.nodes t.total t.ends.items t.parts };
+    ghost invariant = { λ t. IsKept t.nodes t.ends.items t.parts };
 }
 
 /// The least number of spans; 0 where there is none.
@@ -66,7 +65,7 @@ impl Tree {
     pub fn total(&self) -> u64
         ensures { result ≡ total_lines self.now }
     {
-        self.total
+        self.nodes.total()
     }
 
     /// Whether the nodes of two trees agree in kinds and, where they are directives, in all tokens.

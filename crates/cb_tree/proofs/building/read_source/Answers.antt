@@ -17,11 +17,6 @@ returns-clause-few c =
     let walk_is : c.new-walk.result ≡ marks_of c.args.source.now = c.new-walk.ensures ∙ c.in_ok-marks.ensures in
     omega (arith, few_marks c.args.source.now, ap length walk_is, c.in_ok-nodes.ensures.nodes.few, c.in_ok-check_size.ensures.bytes)
 
-pub returns-clause-few_lines : goal.returns-clause-few_lines
-returns-clause-few_lines c =
-    let walk_is : c.new-walk.result ≡ marks_of c.args.source.now = c.new-walk.ensures ∙ c.in_ok-marks.ensures in
-    omega (arith, few_marks c.args.source.now, ap length walk_is, c.in_ok-nodes.ensures.nodes.few_lines, c.in_ok-check_size.ensures.bytes)
-
 pub returns-in_err-nodes-clause-fault : goal.returns-in_err-nodes-clause-fault
 returns-in_err-nodes-clause-fault c =
     let walk_is : c.new-walk.result ≡ marks_of c.args.source.now = c.new-walk.ensures ∙ c.in_ok-marks.ensures in

@@ -4,7 +4,7 @@ use Rattle.cb_tree.specs.Nodes.{first_of}
 use Rattle.cb_tree.specs.Sections.{sections_after}
 use Rattle.cb_tree.specs.Heads.{node_in, node_with}
 use Rattle.cb_tree.proofs.Heads.{nodes_more, all_within}
-use Rattle.cb_tree.proofs.NodeSteps.{progress_on, refuses_node, refuses_open, refuses_at_end, sound_at_end}
+use Rattle.cb_tree.proofs.NodeSteps.{progress_on, refuses_node, refuses_open, refuses_at_end, sound_at_end, total_last}
 use Rattle.cb_tree.proofs.sequence.read_nodes.Goals as goal
 
 pub returns-in_err-read_node-clause-fault : goal.returns-in_err-read_node-clause-fault
@@ -22,7 +22,13 @@ nodes-preserved c =
           (subst (λ (x : ℕ). sections_after c.in-Some.head.kind x c.nodes.sections ≡ Ok c.after.new.self) line c.in-Ok.ensures.ok),
       all_within c.nodes.heads.items c.in-Some.head c.nodes.tokens.items c.read_node.new.tokens.items own c.nodes.invariant.1 adds,
       omega (arith, c.nodes.invariant.2, c.in_ok-read_node.ensures.few_tokens),
+      omega (arith, c.nodes.invariant.3, c.count-total.ensures, total_last (map (node_in c.nodes.tokens.items) c.nodes.heads.items) (node_with own c.in-Some.head)),
     )
+
+pub overflow_add-total : goal.overflow_add-total
+overflow_add-total c =
+    let ((own, adds, reads), shorter, few) = rw c.in-Some.is at c.in_ok-read_node.ensures.reads in
+    omega (arith, c.nodes.invariant.3, c.nodes.invariant.0.few_lines, few, c.count-total.ensures, c.requires)
 
 pub returns-in-Err-clause-fault : goal.returns-in-Err-clause-fault
 returns-in-Err-clause-fault c =
@@ -36,7 +42,7 @@ returns-in-Err-clause-fault c =
 pub invariant_of-result : goal.invariant_of-result
 invariant_of-result c =
     let (reads, end, same) = rw c.in-None.is at c.in_ok-read_node.ensures.reads in
-    rw same c.nodes.invariant.1
+    rw same (c.nodes.invariant.1, c.nodes.invariant.3)
 
 pub returns-in-None-fault_at_end-clause-nodes : goal.returns-in-None-fault_at_end-clause-nodes
 returns-in-None-fault_at_end-clause-nodes c =
