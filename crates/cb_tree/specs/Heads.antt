@@ -108,19 +108,28 @@ node_of kept h = node_with (tokens_with h.kind h.hash h.spaced kept) h
 abbrev pub bone_with : List Token → Head → Bone
 bone_with kept h = bone_of (node_of kept h)
 
--- a node, where these are the tokens that are kept of all nodes
-abbrev pub node_in : List Token → Head → Node
-node_in tokens h = node_of (take (h.to - h.from) (drop h.from tokens)) h
+-- a node, where these are the tokens that are kept of all nodes, and so many are those of the nodes before it
+abbrev pub node_in : List Token → ℕ → Head → Node
+node_in tokens from h = node_of (take (h.to - from) (drop from tokens)) h
 
--- the tokens that are kept of each node lie among so many
-abbrev pub AreWithin : ℕ → List Head → Type 0
-AreWithin count [] = Unit {0}
-AreWithin count (h ∷ hs) = ((h.from ≤ h.to) × (h.to ≤ count)) × AreWithin count hs
+-- nodes, where these are the tokens that are kept of all nodes, and so many are those of the nodes before them
+abbrev pub nodes_in : List Token → ℕ → List Head → List Node
+nodes_in tokens from [] = []
+nodes_in tokens from (h ∷ hs) = node_in tokens from h ∷ nodes_in tokens h.to hs
+
+-- the tokens that are kept of each node lie behind those of the nodes before it, and among so many
+abbrev pub AreWithin : ℕ → ℕ → List Head → Type 0
+AreWithin count from [] = Unit {0}
+AreWithin count from (h ∷ hs) = ((from ≤ h.to) × (h.to ≤ count)) × AreWithin count h.to hs
+
+-- the number of the tokens that are kept up to the end of nodes behind so many
+abbrev pub kept_up_to : ℕ → List Head → ℕ
+kept_up_to from [] = from
+kept_up_to from (h ∷ hs) = kept_up_to h.to hs
 
 -- a node of these tokens is kept behind the nodes before it
 pub record Adds (before after : List Token) (head : Head) (own : List Token) : Type 0 where
   pub kept : List Token
   pub added : after ≡ before ++ kept
-  pub from_is : head.from ≡ length before
   pub to_is : head.to ≡ length after
   pub own_is : own ≡ tokens_with head.kind head.hash head.spaced kept

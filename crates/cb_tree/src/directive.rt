@@ -140,11 +140,9 @@ fn read_led(
     ensures few_tokens { OnOk result (length tokens.new.items + length walk.new ≤ length tokens.old.items + length walk.old) }
     ensures tells { IfErr result (Tells walk.old) }
 {
-    let from = tokens.len() as u32;
     let mut counted = Lines::single(alloc, walk.line());
     read_behind_lead(alloc, walk, tokens, &mut counted, lead)?;
     Ok(Head {
-        from,
         to: tokens.len() as u32,
         kind: lead.kind,
         hash,
@@ -173,12 +171,10 @@ fn read_named(
     ensures few_tokens { OnOk result (length tokens.new.items + length walk.new ≤ length tokens.old.items + length walk.old) }
     ensures tells { IfErr result (HeadTells (hash_token hash ∷ []) name.spaced counted walk.old) }
 {
-    let from = tokens.len() as u32;
     let mut counted = counted;
     pass_counted(walk, name.token, &mut counted)?;
     read_behind(alloc, walk, tokens, &mut counted, false)?;
     Ok(Head {
-        from,
         to: tokens.len() as u32,
         kind,
         hash,
@@ -206,17 +202,16 @@ fn read_other(
     ensures few_tokens { OnOk result (length tokens.new.items + length walk.new ≤ length tokens.old.items + length walk.old) }
     ensures tells { IfErr result (HeadTells (hash_token hash ∷ []) second.spaced counted walk.old) }
 {
-    let from = tokens.len() as u32;
+    let from = tokens.len();
     let mut counted = counted;
     let Start { kind, len } = second.token;
     keep_token(alloc, tokens, kind, walk.rest(), len, second.spaced)?;
     pass_counted(walk, second.token, &mut counted)?;
     read_behind(alloc, walk, tokens, &mut counted, false)?;
     let to = tokens.len() as u32;
-    let kept = part(tokens.as_slice(), from as usize, to as usize);
+    let kept = part(tokens.as_slice(), from, to as usize);
     let kind = kind_behind_hash(kept);
     Ok(Head {
-        from,
         to,
         kind,
         hash,
@@ -241,10 +236,8 @@ fn read_behind_hash(
     ensures tells { IfErr result (HeadTells (hash_token hash ∷ []) false counted walk.old) }
 {
     let Some(second) = pass_to_second(walk)? else {
-        let count = tokens.len() as u32;
         return Ok(Head {
-            from: count,
-            to: count,
+            to: tokens.len() as u32,
             kind: NodeKind::Other,
             hash,
             spaced: false,

@@ -1,7 +1,7 @@
 //! The nodes of a source. The tokens that are kept of their directives lie in one list.
 ghost use Rattle.std.specs.Prelude.{◌≡◌, ◌-◌, ◌<◌, ◌≤◌, ◌↔◌, length, take, drop, slice_get, Some, IsTrue};
 ghost use Rattle.std.specs.Option.{option_map};
-ghost use Rattle.cb_tree.specs.Heads.{hash_token, lead_name, node_of, bone_with};
+ghost use Rattle.cb_tree.specs.Heads.{hash_token, kept_up_to, lead_name, node_of, bone_with};
 ghost use Rattle.cb_tree.specs.Nodes.{node_rest, total_lines};
 ghost use Rattle.cb_tree.specs.Skeleton.{bone_of};
 
@@ -16,9 +16,7 @@ use std::marker::Model;
 /// A node but for its tokens, of which those that do not follow from its kind lie among the tokens of all nodes.
 #[derive(Drop)]
 pub(crate) struct Head {
-    /// The number of the tokens that are kept of the nodes before it.
-    pub(crate) from: u32,
-    /// The number of the tokens that are kept of the nodes up to it.
+    /// The number of the tokens that are kept of the nodes up to it. Its own stand behind those of the nodes before it.
     pub(crate) to: u32,
     /// Its kind.
     pub(crate) kind: NodeKind,
@@ -41,17 +39,17 @@ pub(crate) struct Nodes {
 }
 
 impl Model for Nodes {
-    ghost use Rattle.std.specs.Prelude.{◌≡◌, List, length, map};
+    ghost use Rattle.std.specs.Prelude.{◌≡◌, List, length};
     ghost use Rattle.cb_tree.specs.Nodes.{Node};
 
     ghost Value = { List Node };
 
-    ghost use Rattle.cb_tree.specs.Heads.{node_in, AreWithin};
+    ghost use Rattle.cb_tree.specs.Heads.{nodes_in, AreWithin};
     ghost use Rattle.cb_tree.specs.Nodes.{total_lines};
 
-    ghost view = { λ n. map (node_in n.tokens.items) n.heads.items };
+    ghost view = { λ n. nodes_in n.tokens.items 0 n.heads.items };
 
-    ghost invariant = { λ n. AreWithin (length n.tokens.items) n.heads.items × (n.total ≡ total_lines (map (node_in n.tokens.items) n.heads.items)) };
+    ghost invariant = { λ n. AreWithin (length n.tokens.items) 0 n.heads.items × (n.total ≡ total_lines (nodes_in n.tokens.items 0 n.heads.items)) };
 }
 
 /// The tokens from one place to another.
@@ -61,6 +59,14 @@ pub(crate) fn part(tokens: &[Token], from: usize, to: usize) -> &[Token]
     ensures { result.now ≡ take (to - from) (drop from tokens.now) }
 {
     &tokens[from..to]
+}
+
+/// The number of the tokens that are kept of the nodes before a place.
+fn kept_before(heads: &[Head], at: usize) -> u32
+    requires { at ≤ length heads.now }
+    ensures { result ≡ kept_up_to 0 (take at heads.now) }
+{
+    if at == 0 { 0 } else { heads[at - 1].to }
 }
 
 /// Whether two directives of one kind agree in the tokens that are not kept.
@@ -112,9 +118,10 @@ impl Nodes {
         ensures { slice_get self.now at ≡ Some (node_of result.1.now result.0.now) }
     {
         let head = &self.heads[at];
+        let from = kept_before(self.heads.as_slice(), at) as usize;
         (
             head,
-            part(self.tokens.as_slice(), head.from as usize, head.to as usize),
+            part(self.tokens.as_slice(), from, head.to as usize),
         )
     }
 

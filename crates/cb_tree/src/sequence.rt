@@ -19,10 +19,9 @@ use std::alloc::Global;
 
 /// The head of a run of text behind so many tokens.
 fn text_head(count: u32, counted: Lines) -> Head
-    ensures { result ≡ record { from = count; to = count; kind = NodeKind.Text; hash = Hash.Sign; spaced = false; counted = counted } }
+    ensures { result ≡ record { to = count; kind = NodeKind.Text; hash = Hash.Sign; spaced = false; counted = counted } }
 {
     Head {
-        from: count,
         to: count,
         kind: NodeKind::Text,
         hash: Hash::Sign,

@@ -15,8 +15,7 @@ returns-in_default-clause-reads c = λ ms line. (
   record {
     kept = [];
     added = sym (append-nil c.args.tokens.now.items);
-    from_is = c.len-count.ensures ∙ c.args.tokens.now.ok.0;
-    to_is = c.len-count.ensures ∙ c.args.tokens.now.ok.0;
+    to_is = c.len.ensures ∙ c.args.tokens.now.ok.0;
     own_is = refl;
   },
   (rw c.in_default.is at c.in_ok-second.ensures.goes) ms (hash_token c.args.hash ∷ []) c.args.counted line,

@@ -16,7 +16,6 @@ returns-clause-reads c =
       record {
         kept = g.kept;
         added = g.added;
-        from_is = c.len-from.ensures ∙ c.args.tokens.now.ok.0;
         to_is = c.len.ensures ∙ c.read_behind_lead.new.tokens.ok.0;
         own_is = refl;
       },

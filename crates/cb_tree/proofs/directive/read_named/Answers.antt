@@ -21,7 +21,6 @@ returns-clause-reads c = λ ms line.
       record {
         kept = g.kept;
         added = g.added;
-        from_is = c.len-from.ensures ∙ c.args.tokens.now.ok.0;
         to_is = c.len.ensures ∙ c.read_behind.new.tokens.ok.0;
         own_is = refl;
       },

@@ -27,7 +27,7 @@ returns-clause-reads c = λ ms line.
     let unnamed : IsUnnamed c.kind_behind_hash-kind.result = subst IsUnnamed (sym kind_is) (c.requires.unnamed c.args.second.spaced g.kept) in
     let on = rw (c.in_ok-pass_counted.ensures.passed, c.in_ok-pass_counted.ensures.counted) at g.goes ms (hash_token c.args.hash ∷ second ∷ []) in (
       hash_token c.args.hash ∷ kept,
-      record { kept = kept; added = added; from_is = from_is; to_is = to_is; own_is = other_node c.kind_behind_hash-kind.result c.args.hash false kept unnamed },
+      record { kept = kept; added = added; to_is = to_is; own_is = other_node c.kind_behind_hash-kind.result c.args.hash false kept unnamed },
       rw kind_is
           (on
           (directive_token ms (hash_token c.args.hash ∷ []) c.args.second.spaced c.args.counted c.args.walk.now c.args.second.token.kind c.args.second.token.len text c.requires.stands refl

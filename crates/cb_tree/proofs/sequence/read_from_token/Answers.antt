@@ -26,7 +26,7 @@ returns-in_err-counted-clause-tells c =
 pub returns-clause-reads : goal.returns-clause-reads
 returns-clause-reads c =
     rw c.text_head.ensures (
-      ([], record { kept = []; added = sym (append-nil c.args.tokens.now.items); own_is = refl; from_is = c.len.ensures ∙ c.args.tokens.now.ok.0; to_is = c.len.ensures ∙ c.args.tokens.now.ok.0 }, reads_on c.args.walk.now [] c.skip_white.new.walk _ c.read_run.new.walk c.in_ok-token.ensures.reads c.in_ok-counted.ensures.reads),
+      ([], record { kept = []; added = sym (append-nil c.args.tokens.now.items); own_is = refl; to_is = c.len.ensures ∙ c.args.tokens.now.ok.0 }, reads_on c.args.walk.now [] c.skip_white.new.walk _ c.read_run.new.walk c.in_ok-token.ensures.reads c.in_ok-counted.ensures.reads),
       omega (arith, reads_shorter c.args.walk.now [] c.skip_white.new.walk c.in_ok-token.ensures.reads, c.in_ok-counted.ensures.shorter),
       omega (arith, reads_shorter c.args.walk.now [] c.skip_white.new.walk c.in_ok-token.ensures.reads, c.in_ok-counted.ensures.few),
     )

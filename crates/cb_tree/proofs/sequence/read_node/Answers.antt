@@ -19,7 +19,7 @@ pub returns-in_ok-counted-in-Some-clause-reads : goal.returns-in_ok-counted-in-S
 returns-in_ok-counted-in-Some-clause-reads c =
     let begins = rw c.in-Some.is at c.begin_run.ensures.begins in
     rw c.text_head.ensures (
-      ([], record { kept = []; added = sym (append-nil c.args.tokens.now.items); own_is = refl; from_is = c.len.ensures ∙ c.args.tokens.now.ok.0; to_is = c.len.ensures ∙ c.args.tokens.now.ok.0 }, reads_on c.args.walk.now [] c.pass_white.new.walk _ c.read_on.new.walk c.pass_white.ensures.blank (c.in_ok-counted-in-Some.ensures.reads c.pass_white.new.walk begins)),
+      ([], record { kept = []; added = sym (append-nil c.args.tokens.now.items); own_is = refl; to_is = c.len.ensures ∙ c.args.tokens.now.ok.0 }, reads_on c.args.walk.now [] c.pass_white.new.walk _ c.read_on.new.walk c.pass_white.ensures.blank (c.in_ok-counted-in-Some.ensures.reads c.pass_white.new.walk begins)),
       omega (arith, c.pass_white.ensures.shorter, rw c.in-Some.is at c.begin_run.ensures.shorter, c.in_ok-counted-in-Some.ensures.shorter),
       omega (arith, c.pass_white.ensures.shorter, rw c.in-Some.is at c.begin_run.ensures.few, c.in_ok-counted-in-Some.ensures.few),
     )
