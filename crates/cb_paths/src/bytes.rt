@@ -1,5 +1,5 @@
 //! A text of bytes, which need not be UTF-8.
-ghost use Rattle.std.specs.Prelude.{◌≡◌, ◌==◌, ◌≤◌, [], length, take, IfOk};
+ghost use Rattle.std.specs.Prelude.{◌≡◌, ◌==◌, ◌≤◌, [], length, take, IfOk, IfSome, IsSome};
 ghost use Rattle.cb_paths.specs.Texts.{text_of, IsText};
 
 use crate::memory::NoMemory;
@@ -101,8 +101,7 @@ impl Bytes {
         Bytes { text: few(&[]) }
     }
 
-    /// A copy of these bytes. It stays out of the way of `from_front`.
-    #[inline(never)]
+    /// A copy of these bytes.
     pub fn from_slice(alloc: Global, bytes: &[u8]) -> Result<Bytes, NoMemory>
         ensures { IfOk result (λ b. b ≡ bytes.now) }
     {
@@ -113,18 +112,20 @@ impl Bytes {
         Ok(Bytes { text })
     }
 
-    /// A copy of so many bytes at the front of these. It is made faster than by `from_slice` where some more bytes follow.
+    /// The text of so many bytes at the front of these, if they are at most 14, and these at least 14. It takes no memory, and the
+    /// same time for any number of bytes.
     #[inline]
-    pub fn from_front(alloc: Global, bytes: &[u8], len: usize) -> Result<Bytes, NoMemory>
+    pub fn short_front(bytes: &[u8], len: usize) -> Option<Bytes>
         requires { len ≤ length bytes.now }
-        ensures { IfOk result (λ b. b ≡ take len bytes.now) }
+        ensures text { IfSome result (λ b. b ≡ take len bytes.now) }
+        ensures gives { len ≤ 14 → 14 ≤ length bytes.now → IsSome result }
     {
-        if len <= SHORT && SHORT <= bytes.len() {
-            return Ok(Bytes {
-                text: front(bytes, len),
-            });
+        if len > SHORT || bytes.len() < SHORT {
+            return None;
         }
-        Bytes::from_slice(alloc, &bytes[..len])
+        Some(Bytes {
+            text: front(bytes, len),
+        })
     }
 
     /// A second text of the same bytes.
@@ -183,8 +184,10 @@ mod tests {
             let copy = bytes.copy(rt.alloc())?;
             assert_eq!(rt; copy.as_slice(), text);
             for len in 0..text.len() {
-                let front = Bytes::from_front(rt.alloc(), text, len)?;
-                assert_eq!(rt; front.as_slice(), &text[..len]);
+                match Bytes::short_front(text, len) {
+                    Some(front) => assert_eq!(rt; front.as_slice(), &text[..len]),
+                    None => assert!(rt; text.len() < 14 || len > 14),
+                }
             }
             assert_eq!(rt; copy.len(), text.len());
             assert_eq!(rt; bytes.is_empty(), text.is_empty());

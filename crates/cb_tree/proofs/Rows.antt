@@ -112,15 +112,6 @@ row_token once spaced spaced' bytes before after n len kind text h stands text_i
           (directive_token ms own spaced' counted' mid kind len text there (text_is ∙ ap (take len) behind) directive);
     }))
 
--- no LF stands in white space and tokens
-plain_no_feed : ((bs : List ℕ) (len k : ℕ) → StandsFirst bs (first.Piece kinds.White len) → k < len → is_line_feed (get_or bs k 0) ≡ false)
-    → ((bs : List ℕ) (kind : TokenKind) (len k : ℕ) → StandsFirst bs (first.Piece (kinds.Token kind) len) → k < len → is_line_feed (get_or bs k 0) ≡ false)
-    → (kind : PieceKind) (bs : List ℕ) (len k : ℕ) → is_plain kind ≡ true → StandsFirst bs (first.Piece kind len) → k < len → is_line_feed (get_or bs k 0) ≡ false
-plain_no_feed white token kinds.White bs len k p h l = white bs len k h l
-plain_no_feed white token kinds.Comment bs len k p h l = absurd (cc)
-plain_no_feed white token kinds.LineEnd bs len k p h l = absurd (cc)
-plain_no_feed white token (kinds.Token kind) bs len k p h l = token bs kind len k h l
-
 -- bytes behind others without an LF
 pub no_feed_behind : (bytes : List ℕ) (n m : ℕ) → ((k : ℕ) → k < n → is_line_feed (get_or bytes k 0) ≡ false)
     → ((k : ℕ) → k < m → is_line_feed (get_or (drop n bytes) k 0) ≡ false) → (k : ℕ) → k < n + m → is_line_feed (get_or bytes k 0) ≡ false
@@ -133,12 +124,10 @@ no_feed_behind bytes n m h g k l =
           )
     ]
 
-pub no_feed_more : ((bs : List ℕ) (len k : ℕ) → StandsFirst bs (first.Piece kinds.White len) → k < len → is_line_feed (get_or bs k 0) ≡ false)
-    → ((bs : List ℕ) (kind : TokenKind) (len k : ℕ) → StandsFirst bs (first.Piece (kinds.Token kind) len) → k < len → is_line_feed (get_or bs k 0) ≡ false)
-    → (kind : PieceKind) (bytes : List ℕ) (n len m : ℕ) → is_plain kind ≡ true → StandsFirst (drop n bytes) (first.Piece kind len) → m ≡ n + len
-    → ((k : ℕ) → k < n → is_line_feed (get_or bytes k 0) ≡ false) → (k : ℕ) → k < m → is_line_feed (get_or bytes k 0) ≡ false
-no_feed_more white token kind bytes n len m p stands e h k l =
-    no_feed_behind bytes n len h (λ i g. plain_no_feed white token kind (drop n bytes) len i p stands g) k (omega arith)
+pub no_feed_more : ((bs : List ℕ) (kind : TokenKind) (len k : ℕ) → StandsFirst bs (first.Piece (kinds.Token kind) len) → k < len → is_line_feed (get_or bs k 0) ≡ false)
+    → (kind : TokenKind) (bytes : List ℕ) (n len : ℕ) → StandsFirst (drop n bytes) (first.Piece (kinds.Token kind) len)
+    → ((k : ℕ) → k < n → is_line_feed (get_or bytes k 0) ≡ false) → (k : ℕ) → k < n + len → is_line_feed (get_or bytes k 0) ≡ false
+no_feed_more token kind bytes n len stands h = no_feed_behind bytes n len h (λ i g. token (drop n bytes) kind len i stands g)
 
 pub longer : (bytes : List ℕ) (kind : PieceKind) (len : ℕ) → StandsFirst bytes (first.Piece kind len) → 0 < len
 longer bytes kind len h = some_bytes bytes kind len h.1

@@ -8,7 +8,6 @@ use Rattle.cb_tokens.specs.declared.token.Token.{Token}
 use Rattle.cb_tokens.specs.declared.token.PieceKind.TheVariants as piece
 use Rattle.cb_tokens.specs.declared.first.First.TheVariants as first
 use Rattle.cb_tokens.specs.Cut.{Piece, StandsFirst, Cuts, IsCut, HasOpenComment}
-use Rattle.cb_tokens.specs.Plain.{is_plain}
 use Rattle.cb_tokens.specs.Logical.{split_lines, line_tokens, later_tokens, token_marks}
 use Rattle.cb_tree.specs.declared.fault.SourceKind.TheVariants as kind
 use Rattle.cb_tree.specs.declared.fault.BuildFault.{BuildFault}
@@ -135,9 +134,9 @@ pub record DirectiveGoes (spaced : Bool) (counted : List ℕ) (from : List Mark)
   pub added : after ≡ before ++ kept
   pub goes : (ms : List Mark) (own : List Token) → ReadsDirective ms own spaced counted from → DirectiveStands ms (own ++ kept) next counted' rest
 
--- what stands at a place of bytes, of a row that ends at another one: white space or a token to its end, a line end, or else
+-- what stands at a place of bytes, of a row that ends at another one: a token to its end, a line end, or else
 abbrev pub IsInRow : List ℕ → ℕ → ℕ → InRow → Type 0
-IsInRow bytes at end (row.Plain p) = StandsFirst (drop at bytes) (first.Piece p.kind p.len) × (at + p.len ≤ end) × (is_plain p.kind ≡ true)
+IsInRow bytes at end (row.Token t) = StandsFirst (drop at bytes) (first.Piece (piece.Token t.kind) t.len) × (at + t.len ≤ end)
 IsInRow bytes at end row.LineEnd = StandsFirst (drop at bytes) (first.Piece piece.LineEnd 1)
 IsInRow bytes at end row.Beyond = Unit {0}
 

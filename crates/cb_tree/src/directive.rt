@@ -50,11 +50,11 @@ fn pass_piece(
                 Ok(None)
             }
             PieceKind::Token(kind) => {
-                keep_token(alloc, tokens, kind, walk.rest(), piece.len, spaced)?;
                 let token = Start {
                     kind,
                     len: piece.len,
                 };
+                keep_token(alloc, tokens, token, walk.rest(), spaced)?;
                 pass_counted(walk, token, counted)?;
                 Ok(Some(false))
             }
@@ -204,8 +204,7 @@ fn read_other(
 {
     let from = tokens.len();
     let mut counted = counted;
-    let Start { kind, len } = second.token;
-    keep_token(alloc, tokens, kind, walk.rest(), len, second.spaced)?;
+    keep_token(alloc, tokens, second.token, walk.rest(), second.spaced)?;
     pass_counted(walk, second.token, &mut counted)?;
     read_behind(alloc, walk, tokens, &mut counted, false)?;
     let to = tokens.len() as u32;

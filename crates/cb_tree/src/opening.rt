@@ -107,11 +107,11 @@ fn name_in_row(bytes: &[u8], at: usize, end: usize) -> Option<(NodeKind, usize)>
         × IsNamed (take found.1 (drop at bytes.now)) found.0 × (at + found.1 ≤ end)) }
 {
     match next_in_row(bytes, at, end) {
-        InRow::Plain(piece) => match piece.kind {
-            PieceKind::Token(TokenKind::Identifier) => {
+        InRow::Token(token) => match token.kind {
+            TokenKind::Identifier => {
                 let (_, ahead) = bytes.split_at(at);
-                let kind = named_kind(&ahead[..piece.len])?;
-                Some((kind, piece.len))
+                let kind = named_kind(&ahead[..token.len])?;
+                Some((kind, token.len))
             }
             _ => None,
         },

@@ -2,12 +2,11 @@
 ghost use Rattle.std.specs.Prelude.{ℕ, ◌≡◌, ◌+◌, ◌<◌, ◌≤◌, ◌∷◌, ◌++◌, [], Bool, List, true, false, length, take, drop, slice_index, Some, IfOk, IfSome, OnOk};
 ghost use Rattle.cb_lines.specs.Marks.{bytes_of, is_line_feed};
 ghost use Rattle.cb_tokens.specs.Cut.{StandsFirst};
-ghost use Rattle.cb_tokens.specs.Plain.{is_plain};
 ghost use Rattle.cb_tokens.specs.declared.first.First.{First};
 ghost use Rattle.cb_tokens.specs.declared.token.Token.{Token};
 ghost use Rattle.cb_tree.specs.Reads.{DirectiveGoes, GoesInRow, IsInRow, row_counted};
 
-use crate::reading::Ahead;
+use crate::reading::Start;
 use cb_lines::{Lines, Walk, one_line};
 use cb_paths::{Bytes, NoMemory};
 use cb_tokens::{
@@ -30,8 +29,8 @@ pub(crate) struct Reach {
 /// What stands next in a row.
 #[derive(Clone, Copy)]
 pub(crate) enum InRow {
-    /// White space or a token, to its end.
-    Plain(Ahead),
+    /// A token, to its end.
+    Token(Start),
     /// A line end.
     LineEnd,
     /// Anything else, or the end of the row.
@@ -43,15 +42,33 @@ pub(crate) enum InRow {
 pub(crate) fn keep_token(
     alloc: Global,
     tokens: &mut Vec<Token>,
-    kind: TokenKind,
+    token: Start,
     bytes: &[u8],
-    len: usize,
     spaced: bool,
 ) -> Result<(), NoMemory>
-    requires { len ≤ length bytes.now }
-    ensures { OnOk result (tokens.new.items ≡ tokens.old.items ++ record { kind = kind; text = take len bytes.now; spaced = spaced } ∷ []) }
+    requires { token.len ≤ length bytes.now }
+    ensures { OnOk result (tokens.new.items ≡ tokens.old.items ++ record { kind = token.kind; text = take token.len bytes.now; spaced = spaced } ∷ []) }
 {
-    let text = Bytes::from_front(alloc, bytes, len)?;
+    let Start { kind, len } = token;
+    if let Some(text) = Bytes::short_front(bytes, len) {
+        tokens.push(Token { kind, text, spaced })?;
+        return Ok(());
+    }
+    keep_text(alloc, tokens, kind, &bytes[..len], spaced)
+}
+
+/// Keeps a token of these bytes. It stays out of the way of the short ones.
+#[inline(never)]
+fn keep_text(
+    alloc: Global,
+    tokens: &mut Vec<Token>,
+    kind: TokenKind,
+    text: &[u8],
+    spaced: bool,
+) -> Result<(), NoMemory>
+    ensures { OnOk result (tokens.new.items ≡ tokens.old.items ++ record { kind = kind; text = text.now; spaced = spaced } ∷ []) }
+{
+    let text = Bytes::from_slice(alloc, text)?;
     tokens.push(Token { kind, text, spaced })?;
     Ok(())
 }
@@ -70,48 +87,10 @@ pub(crate) fn next_in_row(bytes: &[u8], at: usize, end: usize) -> InRow
     }
     match first_piece(ahead) {
         First::Piece { kind, len } if len <= end - at => match kind {
-            PieceKind::White | PieceKind::Token(_) => InRow::Plain(Ahead { kind, len }),
-            PieceKind::Comment | PieceKind::LineEnd => InRow::Beyond,
+            PieceKind::Token(kind) => InRow::Token(Start { kind, len }),
+            PieceKind::White | PieceKind::Comment | PieceKind::LineEnd => InRow::Beyond,
         },
         _ => InRow::Beyond,
-    }
-}
-
-/// Keeps a piece if it is a token, and answers how far the line is read with it.
-#[inline]
-fn keep_piece(
-    alloc: Global,
-    bytes: &[u8],
-    reach: Reach,
-    piece: Ahead,
-    tokens: &mut Vec<Token>,
-) -> Result<Reach, NoMemory>
-    requires stands { StandsFirst (drop reach.len bytes.now) (First.Piece piece.kind piece.len) }
-    requires within { reach.len + piece.len ≤ length bytes.now }
-    requires plain { is_plain piece.kind ≡ true }
-    ensures goes { IfOk result (λ next. (spaced : Bool) (before : List Token) → GoesInRow spaced bytes.now before tokens.old.items reach.spaced reach.len
-        → GoesInRow spaced bytes.now before tokens.new.items next.spaced next.len) }
-    ensures len { IfOk result (λ next. (next.len ≡ reach.len + piece.len) × (next.ended ≡ false)) }
-    ensures few { OnOk result (length tokens.new.items ≤ length tokens.old.items + piece.len) }
-{
-    one_line();
-    let len = reach.len + piece.len;
-    match piece.kind {
-        PieceKind::Token(kind) => {
-            let (_, ahead) = bytes.split_at(reach.len);
-            keep_token(alloc, tokens, kind, ahead, piece.len, reach.spaced)?;
-            Ok(Reach {
-                len,
-                spaced: false,
-                ended: false,
-            })
-        }
-        PieceKind::White => Ok(Reach {
-            len,
-            spaced: true,
-            ended: false,
-        }),
-        PieceKind::Comment | PieceKind::LineEnd => unreachable!(),
     }
 }
 
@@ -155,6 +134,7 @@ pub(crate) fn read_row(
     ensures ended { IfOk result (λ reach. reach.ended ≡ true → StandsFirst (drop reach.len bytes.now) (First.Piece PieceKind.LineEnd 1)) }
 {
     pieces_end_with_lines();
+    one_line();
     let mut reach = Reach {
         len: 0,
         spaced,
@@ -163,7 +143,15 @@ pub(crate) fn read_row(
     'pieces: loop {
         reach = skip_blanks(bytes, reach, end);
         match next_in_row(bytes, reach.len, end) {
-            InRow::Plain(piece) => reach = keep_piece(alloc, bytes, reach, piece, tokens)?,
+            InRow::Token(token) => {
+                let (_, ahead) = bytes.split_at(reach.len);
+                keep_token(alloc, tokens, token, ahead, reach.spaced)?;
+                reach = Reach {
+                    len: reach.len + token.len,
+                    spaced: false,
+                    ended: false,
+                };
+            }
             InRow::LineEnd => {
                 return Ok(Reach {
                     ended: true,
