@@ -17,6 +17,7 @@ pub mod OneCut
 pub mod Stretches
 pub mod Feeds
 pub mod Flags
+pub mod Masks
 pub mod MarksLeft
 pub mod Decided
 pub mod OneToken

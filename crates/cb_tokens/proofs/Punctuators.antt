@@ -1,12 +1,12 @@
 -- Punctuators, by their bytes.
-use Rattle.std.proofs.Common.{◌≡◌, ℕ, suc, zero, ◌+◌, ◌<◌, ◌≤◌, Bool, true, false, List, [], ◌∷◌, length, get_or, take, ltb, leb, length-take-le, sym, refl, ap, ◌∙◌, subst, arith, ⊎_elim}
+use Rattle.std.proofs.Common.{◌≡◌, ℕ, suc, zero, ◌+◌, ◌<◌, ◌≤◌, ◌==◌, ◌||◌, not, Bool, true, false, List, [], ◌∷◌, length, get_or, take, ltb, leb, length-take-le, sym, refl, ap, ◌∙◌, subst, arith, ⊎_elim}
 use Rattle.std.specs.List.{list_all, list_any}
 use Rattle.std.specs.Str.{bytes_eq}
-use Rattle.std.proofs.lemmas.Bool.{false≢true, both_ways, and_parts, or_cases, leb-true, ltb-true, cases_lt, false_from_ne_true}
+use Rattle.std.proofs.lemmas.Bool.{false≢true, both_ways, and_parts, or_cases, eqb-true, leb-true, ltb-true, cases_lt, false_from_ne_true}
 use Rattle.std.proofs.lemmas.List.{get_or_past}
 use Rattle.std.proofs.lemmas.Slice.Eq.{bytes_eq-Decides}
 use Rattle.cb_tokens.specs.Forms.{is_punctuator, punctuators}
-use Rattle.cb_tokens.specs.Scan.{IsLongest}
+use Rattle.cb_tokens.specs.Scan.{IsLongest, is_second}
 use Rattle.cb_tokens.proofs.Longest.{AreWithin}
 
 pub among : (test : List ℕ → Bool) (l : List ℕ) (ps : List (List ℕ)) → list_all test ps ≡ true → list_any (λ p. bytes_eq p l) ps ≡ true → test l ≡ true
@@ -145,3 +145,47 @@ longest1 xs four three two h =
 pub too_long : (a b c d e : ℕ) (xs : List ℕ) → is_punctuator (a ∷ b ∷ c ∷ d ∷ e ∷ xs) ≡ false
 too_long a b c d e xs =
     false_from_ne_true (is_punctuator (a ∷ b ∷ c ∷ d ∷ e ∷ xs)) (λ h. let s = is_short (a ∷ b ∷ c ∷ d ∷ e ∷ xs) h in omega arith)
+
+-- a longer one goes on with one of their second bytes
+has_second : List ℕ → Bool
+has_second [] = true
+has_second (a ∷ []) = true
+has_second (a ∷ b ∷ l) = is_second b
+
+pub none_longer : (a b : ℕ) (l : List ℕ) → is_second b ≡ false → is_punctuator (a ∷ b ∷ l) ≡ false
+unfolding is_second punctuators has_second
+none_longer a b l h =
+    false_from_ne_true (is_punctuator (a ∷ b ∷ l)) (λ p. both_ways (is_second b) h (of_punctuators has_second refl (a ∷ b ∷ l) p))
+
+pub longest_alone : (xs : List ℕ) → is_second (get_or xs 1 0) ≡ false → is_punctuator (take 1 xs) ≡ true → IsLongest is_punctuator xs 1
+longest_alone xs none h =
+    longest1 xs (none_longer (get_or xs 0 0) (get_or xs 1 0) (get_or xs 2 0 ∷ get_or xs 3 0 ∷ []) none)
+    (none_longer (get_or xs 0 0) (get_or xs 1 0) (get_or xs 2 0 ∷ []) none) (none_longer (get_or xs 0 0) (get_or xs 1 0) [] none) h
+
+-- # is longer only as ##
+is_hash_or_two : List ℕ → Bool
+is_hash_or_two [] = true
+is_hash_or_two (a ∷ []) = true
+is_hash_or_two (a ∷ b ∷ []) = not (a == 35) || (b == 35)
+is_hash_or_two (a ∷ b ∷ c ∷ l) = not (a == 35)
+
+no_longer_hash : (b : ℕ) (l : List ℕ) → (b ≡ 35 → ⊥) → is_punctuator (35 ∷ b ∷ l) ≡ true → ⊥
+unfolding punctuators is_hash_or_two
+no_longer_hash b [] other h = other (eqb-true b 35 (of_punctuators is_hash_or_two refl (35 ∷ b ∷ []) h))
+no_longer_hash b (c ∷ l) other h = false≢true (of_punctuators is_hash_or_two refl (35 ∷ b ∷ c ∷ l) h)
+
+pub longest_hash : (xs : List ℕ) → get_or xs 0 0 ≡ 35 → (get_or xs 1 0 ≡ 35 → ⊥) → is_punctuator (take 1 xs) ≡ true → IsLongest is_punctuator xs 1
+longest_hash xs hash other h =
+    let none : (l : List ℕ) → is_punctuator (get_or xs 0 0 ∷ get_or xs 1 0 ∷ l) ≡ false
+    = λ l. false_from_ne_true (is_punctuator (get_or xs 0 0 ∷ get_or xs 1 0 ∷ l)) (λ p. no_longer_hash (get_or xs 1 0) l other (subst (λ (a : ℕ). is_punctuator (a ∷ get_or xs 1 0 ∷ l) ≡ true) hash p)) in
+    longest1 xs (none (get_or xs 2 0 ∷ get_or xs 3 0 ∷ [])) (none (get_or xs 2 0 ∷ [])) (none []) h
+
+two_hashes : is_punctuator (35 ∷ 35 ∷ []) ≡ true
+unfolding is_punctuator punctuators
+two_hashes = refl
+
+pub longest_of_two : (xs : List ℕ) → get_or xs 0 0 ≡ 35 → get_or xs 1 0 ≡ 35 → (2 ≤ length xs) × (is_punctuator (take 2 xs) ≡ true)
+longest_of_two xs a b =
+    let two : is_punctuator (front2 xs) ≡ true = rw (a, b) two_hashes in
+    let room = room2 xs two in
+    (room, ap is_punctuator (take2 xs room) ∙ two)

@@ -1,6 +1,7 @@
 -- What the scanners of single forms answer. No public clause names these words.
 use Rattle.std.specs.Prelude.{◌≡◌, ℕ, ◌+◌, ◌≤◌, ◌==◌, ◌&&◌, Bool, true, false, not, nat_lt, if◌then◌else◌, List, length, take, slice_index, Option, Some, None}
-use Rattle.cb_tokens.specs.Forms.{is_quote, is_line_feed, closes, stays_unclosed, ends_comment, has_comment_end}
+use Rattle.std.specs.List.{list_any}
+use Rattle.cb_tokens.specs.Forms.{is_quote, is_line_feed, punctuators, closes, stays_unclosed, ends_comment, has_comment_end}
 use Rattle.cb_tokens.specs.declared.token.TokenKind.{TokenKind}
 use Rattle.cb_tokens.specs.declared.token.TokenKind.TheVariants.{Char, Str}
 use Rattle.cb_tokens.specs.declared.quote.QuoteEnd.{QuoteEnd}
@@ -43,3 +44,7 @@ abbrev pub prefix_before_quote : List ℕ → ℕ
 prefix_before_quote bytes =
     if is_quote (slice_index bytes 1) then 1
     else (if (slice_index bytes 0 == 117) && (slice_index bytes 1 == 56) && (slice_index bytes 2 == 34) then 2 else 0)
+
+-- the second byte of some punctuator (own)
+unfoldable pub is_second : ℕ → Bool
+is_second byte = list_any (λ p. nat_lt 1 (length p) && (slice_index p 1 == byte)) punctuators

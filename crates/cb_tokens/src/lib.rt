@@ -5,6 +5,7 @@ mod class;
 mod comment;
 mod fault;
 mod first;
+mod lanes;
 mod laws;
 mod left;
 mod lexed;

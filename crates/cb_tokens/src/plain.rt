@@ -10,9 +10,9 @@ ghost use Rattle.cb_tokens.specs.declared.first.First.{First};
 ghost use Rattle.cb_tokens.specs.declared.token.PieceKind.{PieceKind};
 ghost use Rattle.cb_tokens.specs.declared.token.TokenKind.{TokenKind};
 
-use crate::punctuator::punctuator_len;
+use crate::lanes::quiet_end;
 use crate::runs::{byte_at, is_line_feed, white_len};
-use crate::table::{is_quiet, is_white};
+use crate::table::is_white;
 
 /// Bytes at the front that need no look at each piece.
 #[derive(Clone, Copy)]
@@ -59,14 +59,14 @@ pub fn begins_with_hash(bytes: &[u8]) -> bool
     if byte_at(bytes, 0) != b'#' {
         return false;
     }
-    punctuator_len(bytes) == 1
+    byte_at(bytes, 1) != b'#'
 }
 
 /// The number of quiet bytes at the front.
 fn quiet_len(bytes: &[u8]) -> usize
     ensures { result ≡ prefix_len is_quiet bytes.now }
 {
-    bytes.iter().take_while(|b| is_quiet(**b)).count()
+    quiet_end(bytes, 0, bytes.len())
 }
 
 /// Whether a byte that is not white stands at a place, directly behind a white one.

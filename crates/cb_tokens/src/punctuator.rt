@@ -4,6 +4,7 @@ ghost use Rattle.cb_tokens.specs.Forms.{is_punctuator};
 ghost use Rattle.cb_tokens.specs.Scan.{IsLongest};
 
 use crate::runs::byte_at;
+use crate::table::is_second;
 
 /// Whether the byte is a punctuator.
 #[tactic(auto, unfolding(crate::specs::Forms::is_punctuator, crate::specs::Forms::punctuators))]
@@ -64,8 +65,11 @@ pub(crate) fn punctuator_len(bytes: &[u8]) -> usize
     requires { is_punctuator (take 1 bytes.now) ≡ true }
     ensures { IsLongest is_punctuator bytes.now result }
 {
-    let first = byte_at(bytes, 0);
     let second = byte_at(bytes, 1);
+    if !is_second(second) {
+        return 1;
+    }
+    let first = byte_at(bytes, 0);
     let third = byte_at(bytes, 2);
     if is_quadruple(first, second, third, byte_at(bytes, 3)) {
         4

@@ -2,6 +2,7 @@
 ghost use Rattle.std.specs.Prelude.{◌≡◌};
 ghost use Rattle.cb_tokens.specs.Forms.{is_white, is_name_byte};
 ghost use Rattle.cb_tokens.specs.Plain.{is_quiet};
+ghost use Rattle.cb_tokens.specs.Scan.{is_second};
 
 const WHITE: u8 = 1;
 
@@ -9,13 +10,15 @@ const NAME: u8 = 2;
 
 const QUIET: u8 = 4;
 
-// For each byte a digit, whose low three bits are the flags above. A look-up costs the same for each byte, where a test of ranges is
+const SECOND: u8 = 8;
+
+// For each byte a character, whose low four bits are the flags above. A look-up costs the same for each byte, where a test of ranges is
 // mispredicted at every turn of a text.
 static FLAGS: [u8; 256] = *b"\
     44444444450555444444444444444444\
-    54046440444444406666666666444444\
+    540<6<<0444<4<<06666666666<4<<<4\
     46666666666666666666666666644446\
-    46666666666666666666666666644444\
+    4666666666666666666666666664<444\
     66666666666666666666666666666666\
     66666666666666666666666666666666\
     66666666666666666666666666666666\
@@ -43,4 +46,12 @@ pub(crate) fn is_quiet(byte: u8) -> bool
     ensures { result ≡ is_quiet byte }
 {
     FLAGS[byte as usize] & QUIET != 0
+}
+
+/// Whether it is the second byte of some punctuator.
+#[inline]
+pub(crate) fn is_second(byte: u8) -> bool
+    ensures { result ≡ is_second byte }
+{
+    FLAGS[byte as usize] & SECOND != 0
 }

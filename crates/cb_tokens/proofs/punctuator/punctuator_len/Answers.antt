@@ -1,4 +1,4 @@
-use Rattle.cb_tokens.proofs.Punctuators.{longest1, longest2, longest3, longest4}
+use Rattle.cb_tokens.proofs.Punctuators.{longest1, longest2, longest3, longest4, longest_alone}
 use Rattle.cb_tokens.proofs.punctuator.punctuator_len.Goals as goal
 
 pub returns-then-is_quadruple : goal.returns-then-is_quadruple
@@ -12,3 +12,6 @@ returns-then-is_pair c = longest2 c.args.bytes.now (cc) (cc) (cc)
 
 pub returns-else-is_pair : goal.returns-else-is_pair
 returns-else-is_pair c = longest1 c.args.bytes.now (cc) (cc) (cc) c.requires
+
+pub returns-then-not-is_second : goal.returns-then-not-is_second
+returns-then-not-is_second c = longest_alone c.args.bytes.now (cc) c.requires

@@ -1,0 +1,92 @@
+//! Bytes looked at 32 at a time.
+ghost use Rattle.std.specs.Prelude.{ℕ, ◌≡◌, ◌≢◌, ◌↔◌, ◌+◌, ◌<◌, ◌≤◌, true, false, length, slice_index};
+ghost use Rattle.std.specs.Int.{bit_at};
+ghost use Rattle.cb_tokens.specs.Plain.{is_quiet};
+
+use crate::table::is_quiet;
+use std::simd::prelude::*;
+
+/// The number of bytes that are looked at together.
+const LANES: usize = 32;
+
+/// A bit for each lane, set where the byte stands there.
+#[inline(always)]
+fn bits_of(bytes: u8x32, byte: u8) -> u64
+    requires { 0 < byte }
+    ensures { (k : ℕ) → (bit_at result k ≡ 1) ↔ (slice_index bytes k ≡ byte) }
+{
+    bytes.simd_eq(u8x32::splat(byte)).to_bitmask()
+}
+
+/// The place of the lowest bit that is set.
+#[inline(always)]
+fn lowest(bits: u64) -> usize
+    requires { bits ≢ 0 }
+    ensures set { bit_at bits result ≡ 1 }
+    ensures below { (k : ℕ) → k < result → bit_at bits k ≡ 0 }
+    ensures few { result < 64 }
+{
+    bits.trailing_zeros() as usize
+}
+
+/// The 32 bytes from a place.
+#[inline(always)]
+fn load(bytes: &[u8], at: usize) -> u8x32
+    requires { at + 32 ≤ length bytes.now }
+    ensures lanes { length result ≡ 32 }
+    ensures each { (k : ℕ) → k < 32 → slice_index result k ≡ slice_index bytes.now (at + k) }
+{
+    u8x32::from_slice(&bytes[at..])
+}
+
+/// A bit for each of the 32 bytes from a place, set where the byte is not quiet.
+#[inline(always)]
+fn loud_bits(bytes: &[u8], at: usize) -> u64
+    requires { at + 32 ≤ length bytes.now }
+    ensures loud { (k : ℕ) → bit_at result k ≡ 1 → (k < 32) × (is_quiet (slice_index bytes.now (at + k)) ≡ false) }
+    ensures quiet { (k : ℕ) → k < 32 → bit_at result k ≡ 0 → is_quiet (slice_index bytes.now (at + k)) ≡ true }
+{
+    let ahead = load(bytes, at);
+    bits_of(ahead, b'\n') | bits_of(ahead, b'"') | bits_of(ahead, b'\'') | bits_of(ahead, b'/')
+}
+
+/// The first place from one on, up to an end, at which a byte stands that is not quiet; the end where there is none.
+#[inline]
+pub(crate) fn quiet_end(bytes: &[u8], from: usize, end: usize) -> usize
+    requires from { from ≤ end }
+    requires end { end ≤ length bytes.now }
+    ensures within { (from ≤ result) × (result ≤ end) }
+    ensures quiet { (k : ℕ) → from ≤ k → k < result → is_quiet (slice_index bytes.now k) ≡ true }
+    ensures loud { result < end → is_quiet (slice_index bytes.now result) ≡ false }
+{
+    let mut at = from;
+    'lanes: while at < end {
+        if bytes.len() - at < LANES {
+            return quiet_end_of_few(bytes, at, end);
+        }
+        let loud = loud_bits(bytes, at);
+        if loud != 0 {
+            return end.min(at + lowest(loud));
+        }
+        at += LANES;
+    }
+    end
+}
+
+/// The same, a byte at a time.
+fn quiet_end_of_few(bytes: &[u8], from: usize, end: usize) -> usize
+    requires from { from ≤ end }
+    requires end { end ≤ length bytes.now }
+    ensures within { (from ≤ result) × (result ≤ end) }
+    ensures quiet { (k : ℕ) → from ≤ k → k < result → is_quiet (slice_index bytes.now k) ≡ true }
+    ensures loud { result < end → is_quiet (slice_index bytes.now result) ≡ false }
+{
+    let mut at = from;
+    'bytes: while at < end {
+        if !is_quiet(bytes[at]) {
+            return at;
+        }
+        at += 1;
+    }
+    end
+}
