@@ -1,8 +1,8 @@
 -- No token and no white space has an LF.
-use Rattle.std.proofs.Common.{◌≡◌, ℕ, ◌+◌, ◌<◌, ◌≤◌, ◌==◌, Bool, true, false, not, cond, ◌&&◌, ◌||◌, List, [], ◌∷◌, length, get_or, take, drop, length-take-le, refl, ap, ◌∙◌, arith, ◌⊎◌, inl, inr, ⊎_elim}
+use Rattle.std.proofs.Common.{◌≡◌, ℕ, ◌+◌, ◌-◌, ◌<◌, ◌≤◌, ◌==◌, Bool, true, false, not, cond, ◌&&◌, ◌||◌, List, [], ◌∷◌, length, get_or, take, drop, length-take-le, get_or-drop, refl, ap, sym, ◌∙◌, arith, ◌⊎◌, inl, inr, ⊎_elim}
 use Rattle.std.specs.List.{list_all}
 use Rattle.std.specs.Char.{is_ascii_digit}
-use Rattle.std.proofs.lemmas.Bool.{false≢true, and_parts, and_from, or_cases, or_parts, eqb-true, not-true}
+use Rattle.std.proofs.lemmas.Bool.{false≢true, and_parts, and_from, or_cases, or_parts, eqb-true, not-true, cases_lt}
 use Rattle.std.proofs.lemmas.Slice.Eq.{bytes_eq-Decides}
 use Rattle.cb_tokens.specs.declared.token.TokenKind.{TokenKind}
 use Rattle.cb_tokens.specs.declared.token.TokenKind.TheVariants.{Identifier, Number, Char, Str, Punct, Other}
@@ -10,6 +10,7 @@ use Rattle.cb_tokens.specs.declared.token.PieceKind.TheVariants.{White, LineEnd,
 use Rattle.cb_tokens.specs.declared.first.First.TheVariants as first
 use Rattle.cb_tokens.specs.Forms.{is_white, is_line_feed, is_white_run, is_name_start, is_quote, is_prefix_letter, is_punctuator, is_quoted, closes, is_character, is_string, stays_unclosed, is_unclosed, is_stray, fits}
 use Rattle.cb_tokens.specs.Cut.{StandsFirst}
+use Rattle.cb_tokens.specs.Plain.{IsTokenAt}
 use Rattle.cb_tokens.proofs.Stretches.{taken_at, is_solid, identifier_solid, number_solid, punctuator_solid, prefix_solid, white_no_feed_byte}
 
 -- no LF
@@ -164,3 +165,11 @@ token_in_line bytes Punct len k h lt = going bytes len k h.1.within (solid_all (
 token_in_line bytes Other len k h lt =
     ⊎_elim (λ e. going bytes len k h.1.within (unclosed (take len bytes) e) lt) (λ e. going bytes len k h.1.within (stray (take len bytes) e) lt)
     (or_cases (is_unclosed (take len bytes)) (is_stray (take len bytes)) h.1.holds)
+
+pub token_no_feed : (bs : List ℕ) (at end : ℕ) → ((k : ℕ) → k < at → (get_or bs k 0 == 10) ≡ false) → IsTokenAt bs at end → (k : ℕ) → k < end → (get_or bs k 0 == 10) ≡ false
+token_no_feed bs at end before t k lt =
+    elim (cases_lt k at) [
+      | inl l ↦ before k l
+      | inr ge ↦ (let there_ : at + (k - at) ≡ k = omega arith in
+          ap (λ (i : ℕ). get_or bs i 0 == 10) (sym there_) ∙ ap (λ (b : ℕ). b == 10) (sym (get_or-drop at bs (k - at) 0)) ∙ token_in_line (drop at bs) t.0 (end - at) (k - at) t.1 (omega arith))
+    ]

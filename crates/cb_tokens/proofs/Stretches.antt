@@ -4,10 +4,13 @@ use Rattle.std.specs.List.{list_all, flat_map, prefix_len}
 use Rattle.std.specs.Char.{is_ascii_digit}
 use Rattle.std.proofs.lemmas.Bool.{false≢true, both_ways, and_parts, and_from, or_cases, or_left, or_right, eqb-true, not-true, cases_Bool, cases_lt, cases_order}
 use Rattle.std.proofs.lemmas.Bool.Decides.{nat_tests}
-use Rattle.std.proofs.lemmas.List.{get_or-take, length-take, drop-map, drop-drop, length-map}
+use Rattle.std.proofs.lemmas.List.Folds.{list_all-append}
+use Rattle.std.proofs.lemmas.Grind.{flat_map-append}
+use Rattle.std.proofs.lemmas.List.{get_or-take, drop-map, drop-drop, length-map}
 use Rattle.cb_lines.specs.declared.mark.Mark.{Mark}
 use Rattle.cb_lines.specs.Marks.{bytes_of}
 use Rattle.cb_lines.specs.Lines.{StandOn}
+use Rattle.cb_tokens.specs.declared.token.TokenKind.{TokenKind}
 use Rattle.cb_tokens.specs.declared.token.TokenKind.TheVariants.{Identifier, Number, Char, Str, Punct, Other}
 use Rattle.cb_tokens.specs.declared.token.PieceKind.{PieceKind}
 use Rattle.cb_tokens.specs.declared.token.PieceKind.TheVariants.{White, Comment, LineEnd, Token}
@@ -17,7 +20,7 @@ use Rattle.cb_tokens.specs.declared.class.Class.TheVariants as classes
 use Rattle.cb_tokens.specs.Classes.{class_of}
 use Rattle.cb_tokens.specs.Cut.{StandsFirst, Piece, Cuts}
 use Rattle.cb_tokens.specs.Logical.{token_marks}
-use Rattle.cb_tokens.specs.Plain.{is_quiet, is_plain, IsBreak, CutsPlain, AreFirstOf}
+use Rattle.cb_tokens.specs.Plain.{is_quiet, is_apart, is_plain, IsBreak, IsPlainTo, IsTokenAt, CutsPlain}
 use Rattle.cb_tokens.proofs.Punctuators.{of_punctuators}
 use Rattle.cb_tokens.proofs.Heads.{start, starts}
 use Rattle.cb_tokens.proofs.Arms.{no_slash_closed, white_stands}
@@ -100,6 +103,95 @@ pub taken_at : (p : ℕ → Bool) (bs : List ℕ) (m k : ℕ) → m ≤ length b
 taken_at p bs m k le h lt =
     ap p (sym (get_or-take m bs k 0 lt)) ∙ all_at p (take m bs) k h (let e = length-take-le m bs le in omega arith)
 
+-- no byte stands apart from the one before it
+unfoldable joined : List ℕ → Bool
+joined [] = true
+joined (a ∷ []) = true
+joined (a ∷ b ∷ l) = not (is_apart a b) && joined (b ∷ l)
+
+joined_at : (l : List ℕ) (k : ℕ) → joined l ≡ true → suc k < length l → is_apart (get_or l k 0) (get_or l (suc k) 0) ≡ false
+unfolding joined
+joined_at [] k h lt = absurd (omega arith)
+joined_at (a ∷ []) k h lt = absurd (omega arith)
+joined_at (a ∷ b ∷ l) zero h lt = not-true (is_apart a b) (and_parts (not (is_apart a b)) (joined (b ∷ l)) h).0
+joined_at (a ∷ b ∷ l) (suc k) h lt = joined_at (b ∷ l) k (and_parts (not (is_apart a b)) (joined (b ∷ l)) h).1 (omega arith)
+
+taken_joined : (bs : List ℕ) (m k : ℕ) → m ≤ length bs → joined (take m bs) ≡ true → suc k < m → is_apart (get_or bs k 0) (get_or bs (suc k) 0) ≡ false
+taken_joined bs m k le h lt =
+    let first : get_or (take m bs) k 0 ≡ get_or bs k 0 = get_or-take m bs k 0 (omega arith) in
+    let second : get_or (take m bs) (suc k) 0 ≡ get_or bs (suc k) 0 = get_or-take m bs (suc k) 0 lt in
+    ap (λ (x : ℕ). is_apart x (get_or bs (suc k) 0)) (sym first) ∙ ap (is_apart (get_or (take m bs) k 0)) (sym second)
+    ∙ joined_at (take m bs) k h (let e = length-take-le m bs le in omega arith)
+
+name_joined : (a b : ℕ) → is_name_byte b ≡ true → not (is_apart a b) ≡ true
+unfolding is_apart is_name_byte is_name_start is_quote
+name_joined a b h = grind (arith, nat_tests)
+
+other_joined : (a b : ℕ) → ((b == 46) || ((b == 43) || (b == 45))) ≡ true → not (is_apart a b) ≡ true
+unfolding is_apart is_quote
+other_joined a b h = grind (arith, nat_tests)
+
+mark_joined : (a b : ℕ) → (b == 39) ≡ true → is_name_byte a ≡ true → not (is_apart a b) ≡ true
+unfolding is_apart is_quote
+mark_joined a b h g = rw (eqb-true b 39 h, g) refl
+
+continues_joined : (before b after : ℕ) → continues_number before b after ≡ true → not (is_apart before b) ≡ true
+unfolding continues_number
+continues_joined before b after h =
+    let signs : Bool = (b == 43) || (b == 45) in
+    let exponents : Bool = (before == 101) || (before == 69) || (before == 112) || (before == 80) in
+    ⊎_elim
+    (λ h.
+    ⊎_elim
+    (λ h. ⊎_elim (name_joined before b) (λ e. other_joined before b (or_left (b == 46) signs e)) (or_cases (is_name_byte b) (b == 46) h))
+    (λ e. other_joined before b (or_right (b == 46) signs (and_parts signs exponents e).0))
+    (or_cases (is_name_byte b || (b == 46)) (signs && exponents) h))
+    (λ e.
+    let p = and_parts ((b == 39) && is_name_byte before) (is_name_byte after) e in
+    let q = and_parts (b == 39) (is_name_byte before) p.0 in
+    mark_joined before b q.0 q.1)
+    (or_cases (is_name_byte b || (b == 46) || (signs && exponents)) ((b == 39) && is_name_byte before && is_name_byte after) h)
+
+names_joined : (a : ℕ) (l : List ℕ) → list_all is_name_byte l ≡ true → joined (a ∷ l) ≡ true
+unfolding joined
+names_joined a [] h = refl
+names_joined a (b ∷ bs) h =
+    let p = and_parts (is_name_byte b) (list_all is_name_byte bs) h in
+    and_from (not (is_apart a b)) (joined (b ∷ bs)) (name_joined a b p.0) (names_joined b bs p.1)
+
+rest_joined : (before : ℕ) (l : List ℕ) → is_number_rest before l ≡ true → joined (before ∷ l) ≡ true
+unfolding is_number_rest joined
+rest_joined before [] h = refl
+rest_joined before (b ∷ bs) h =
+    let p = and_parts (continues_number before b (get_or bs 0 0)) (is_number_rest b bs) h in
+    and_from (not (is_apart before b)) (joined (b ∷ bs)) (continues_joined before b (get_or bs 0 0) p.0) (rest_joined b bs p.1)
+
+identifier_joined : (l : List ℕ) → is_identifier l ≡ true → joined l ≡ true
+unfolding is_identifier
+identifier_joined [] h = absurd (false≢true h)
+identifier_joined (b ∷ bs) h = names_joined b bs (and_parts (is_name_start b) (list_all is_name_byte bs) h).1
+
+number_joined : (l : List ℕ) → is_number l ≡ true → joined l ≡ true
+unfolding is_number
+number_joined [] h = absurd (false≢true h)
+number_joined (b ∷ bs) h = rest_joined b bs (and_parts (is_ascii_digit b || ((b == 46) && is_ascii_digit (get_or bs 0 0))) (is_number_rest b bs) h).1
+
+punctuator_joined : (l : List ℕ) → is_punctuator l ≡ true → joined l ≡ true
+unfolding punctuators joined is_apart is_quote is_name_byte is_name_start
+punctuator_joined l h = of_punctuators joined refl l h
+
+white_joined : (a b : ℕ) → is_white b ≡ true → is_apart a b ≡ false
+unfolding is_white is_apart is_quote
+white_joined a b h = grind (arith, nat_tests)
+
+quote_no_slash : (q : ℕ) → is_quote q ≡ true → (q == 47) ≡ false
+unfolding is_quote
+quote_no_slash q h = grind (arith, nat_tests)
+
+quote_joined : (a q : ℕ) → is_quote q ≡ true → is_name_byte a ≡ true → is_apart a q ≡ false
+unfolding is_apart
+quote_joined a q h g = let other = quote_no_slash q h in rw (other, h, g) refl
+
 feed_not_solid : is_solid 10 ≡ false
 unfolding is_solid is_white is_line_feed
 feed_not_solid = refl
@@ -108,24 +200,36 @@ white_not_solid : (b : ℕ) → is_white b ≡ true → is_solid b ≡ false
 unfolding is_solid
 white_not_solid b h = rw h refl
 
--- solid bytes do not go over it, nor white ones
-solid_stops : (bs : List ℕ) (n m : ℕ) → IsBreak bs n → m ≤ length bs → list_all is_solid (take m bs) ≡ true → n < m → ⊥
-solid_stops bs n m b le h lt =
+-- solid bytes that stand not apart do not go over it, nor white ones
+solid_stops : (bs : List ℕ) (n m : ℕ) → IsBreak bs n → m ≤ length bs → list_all is_solid (take m bs) ≡ true → joined (take m bs) ≡ true → n < m → ⊥
+solid_stops bs n m b le h j lt =
     let some = b.some in
     ⊎_elim (λ e. both_ways (is_solid (get_or bs n 0)) (ap is_solid e ∙ feed_not_solid) (taken_at is_solid bs m n le h lt))
-    (λ e. both_ways (is_solid (get_or bs (n - 1) 0)) (white_not_solid (get_or bs (n - 1) 0) e.0) (taken_at is_solid bs m (n - 1) le h (omega arith))) b.ends
+    (⊎_elim (λ e. both_ways (is_solid (get_or bs (n - 1) 0)) (white_not_solid (get_or bs (n - 1) 0) e.0) (taken_at is_solid bs m (n - 1) le h (omega arith)))
+    (λ e.
+    let back : suc (n - 1) ≡ n = omega arith in
+    both_ways (is_apart (get_or bs (n - 1) 0) (get_or bs n 0))
+    (subst (λ (i : ℕ). is_apart (get_or bs (n - 1) 0) (get_or bs i 0) ≡ false) back (taken_joined bs m (n - 1) le j (omega arith))) e)) b.ends
 
 white_stops : (bs : List ℕ) (n m : ℕ) → IsBreak bs n → m ≤ length bs → list_all is_white (take m bs) ≡ true → n < m → ⊥
 white_stops bs n m b le h lt =
-    ⊎_elim (λ e. both_ways (is_white (get_or bs n 0)) (ap is_white e ∙ white_is_no_feed) (taken_at is_white bs m n le h lt))
-    (λ e. both_ways (is_white (get_or bs n 0)) e.1 (taken_at is_white bs m n le h lt)) b.ends
+    let white : is_white (get_or bs n 0) ≡ true = taken_at is_white bs m n le h lt in
+    ⊎_elim (λ e. both_ways (is_white (get_or bs n 0)) (ap is_white e ∙ white_is_no_feed) white)
+    (⊎_elim (λ e. both_ways (is_white (get_or bs n 0)) e.1 white)
+    (λ e. both_ways (is_apart (get_or bs (n - 1) 0) (get_or bs n 0)) (white_joined (get_or bs (n - 1) 0) (get_or bs n 0) white) e)) b.ends
 
--- a quote does not stand before it, nor at it behind a solid byte
-quote_stops : (bs : List ℕ) (n q k : ℕ) → IsBreak bs n → is_quote q ≡ true → (q ≡ 10 → ⊥) → get_or bs (k + 1) 0 ≡ q → is_solid (get_or bs k 0) ≡ true → k < n → ⊥
-quote_stops bs n q k b quote other is solid lt =
+-- a quote does not stand before it, nor at it behind a name's byte
+quote_stops : (bs : List ℕ) (n q k : ℕ) → IsBreak bs n → is_quote q ≡ true → (q ≡ 10 → ⊥) → get_or bs (k + 1) 0 ≡ q → is_name_byte (get_or bs k 0) ≡ true → k < n → ⊥
+quote_stops bs n q k b quote other is name lt =
     elim (cases_order (k + 1) n) [
-      | inl same ↦ ⊎_elim (λ e. other (sym is ∙ (ap (λ (i : ℕ). get_or bs i 0) same ∙ e)))
-          (λ e. let before : n - 1 ≡ k = omega arith in both_ways (is_solid (get_or bs k 0)) (white_not_solid (get_or bs k 0) (subst (λ (i : ℕ). is_white (get_or bs i 0) ≡ true) before e.0)) solid) b.ends
+      | inl same ↦ (
+          let here_ : get_or bs n 0 ≡ q = sym (ap (λ (i : ℕ). get_or bs i 0) same) ∙ is in
+          let before : n - 1 ≡ k = omega arith in
+          let named : is_name_byte (get_or bs (n - 1) 0) ≡ true = ap (λ (i : ℕ). is_name_byte (get_or bs i 0)) before ∙ name in
+          ⊎_elim (λ e. other (sym here_ ∙ e))
+          (⊎_elim (λ e. both_ways (is_solid (get_or bs (n - 1) 0)) (white_not_solid (get_or bs (n - 1) 0) e.0) (name_solid (get_or bs (n - 1) 0) named))
+          (λ e. both_ways (is_apart (get_or bs (n - 1) 0) (get_or bs n 0)) (quote_joined (get_or bs (n - 1) 0) (get_or bs n 0) (ap is_quote here_ ∙ quote) named) e)) b.ends
+          )
       | inr differ ↦ (let inside : k + 1 < n = omega (arith, differ) in both_ways (is_quote (get_or bs (k + 1) 0)) (quiet_parts (get_or bs (k + 1) 0) (b.quiet (k + 1) inside)).1 (ap is_quote is ∙ quote))
     ]
 
@@ -148,9 +252,19 @@ u_solid : is_solid 117 ≡ true
 unfolding is_solid is_white is_line_feed
 u_solid = refl
 
-eight_solid : is_solid 56 ≡ true
-unfolding is_solid is_white is_line_feed
-eight_solid = refl
+eight_named : is_name_byte 56 ≡ true
+unfolding is_name_byte is_name_start
+eight_named = refl
+
+eight_joined : (a : ℕ) → is_apart a 56 ≡ false
+unfolding is_apart is_quote
+eight_joined a = refl
+
+prefix_named : (b : ℕ) → is_prefix_letter b ≡ true → is_name_byte b ≡ true
+unfolding is_prefix_letter is_name_byte is_name_start
+prefix_named b h =
+    ⊎_elim (λ h. ⊎_elim (λ e. ap is_name_byte (eqb-true b 76 e)) (λ e. ap is_name_byte (eqb-true b 117 e)) (or_cases (b == 76) (b == 117) h))
+    (λ e. ap is_name_byte (eqb-true b 85 e)) (or_cases ((b == 76) || (b == 117)) (b == 85) h)
 
 -- a character constant or a string that begins with a letter
 letter_char : (bs : List ℕ) (n m : ℕ) → IsBreak bs n → m ≤ length bs → is_character (take m bs) ≡ true → n < m → ⊥
@@ -160,7 +274,7 @@ letter_char (x ∷ xs) n (suc m) b le h lt =
     let some = b.some in
     let quiet = quiet_parts x (b.quiet 0 (omega arith)) in
     ⊎_elim (λ e. both_ways (is_quote x) quiet.1 (ap is_quote e.0 ∙ quote_39))
-    (λ e. quote_stops (x ∷ xs) n 39 0 b quote_39 (λ i. omega arith) (taken_or m 0 38 xs e.2) (prefix_solid x e.0) (omega arith)) (char_parts x (take m xs) h)
+    (λ e. quote_stops (x ∷ xs) n 39 0 b quote_39 (λ i. omega arith) (taken_or m 0 38 xs e.2) (prefix_named x e.0) (omega arith)) (char_parts x (take m xs) h)
 
 u8_string : (x : ℕ) (xs : List ℕ) (n m : ℕ) → IsBreak (x ∷ xs) n → x ≡ 117 → get_or xs 0 0 ≡ 56 → get_or (drop 1 (take m xs)) 0 0 ≡ 34 → ⊥
 u8_string x xs n m b u eight quote =
@@ -168,8 +282,11 @@ u8_string x xs n m b u eight quote =
     let third : get_or (x ∷ xs) 2 0 ≡ 34 = taken_or m 1 33 xs (sym (get_or-drop 1 (take m xs) 0 0) ∙ quote) in
     elim (cases_order 1 n) [
       | inl same ↦ ⊎_elim (λ e. let f : get_or xs 0 0 ≡ 10 = ap (λ (i : ℕ). get_or (x ∷ xs) i 0) same ∙ e in omega arith)
-          (λ e. let before : n - 1 ≡ 0 = omega arith in both_ways (is_solid x) (white_not_solid x (subst (λ (i : ℕ). is_white (get_or (x ∷ xs) i 0) ≡ true) before e.0)) (ap is_solid u ∙ u_solid)) b.ends
-      | inr differ ↦ quote_stops (x ∷ xs) n 34 1 b quote_34 (λ i. omega arith) third (ap is_solid eight ∙ eight_solid) (omega (arith, differ))
+          (⊎_elim (λ e. let before : n - 1 ≡ 0 = omega arith in both_ways (is_solid x) (white_not_solid x (subst (λ (i : ℕ). is_white (get_or (x ∷ xs) i 0) ≡ true) before e.0)) (ap is_solid u ∙ u_solid))
+          (λ e.
+          let here_ : get_or (x ∷ xs) n 0 ≡ 56 = sym (ap (λ (i : ℕ). get_or (x ∷ xs) i 0) same) ∙ eight in
+          both_ways (is_apart (get_or (x ∷ xs) (n - 1) 0) (get_or (x ∷ xs) n 0)) (ap (is_apart (get_or (x ∷ xs) (n - 1) 0)) here_ ∙ eight_joined (get_or (x ∷ xs) (n - 1) 0)) e)) b.ends
+      | inr differ ↦ quote_stops (x ∷ xs) n 34 1 b quote_34 (λ i. omega arith) third (ap is_name_byte eight ∙ eight_named) (omega (arith, differ))
     ]
 
 letter_string : (bs : List ℕ) (n m : ℕ) → IsBreak bs n → m ≤ length bs → is_string (take m bs) ≡ true → n < m → ⊥
@@ -180,7 +297,7 @@ letter_string (x ∷ xs) n (suc m) b le h lt =
     let quiet = quiet_parts x (b.quiet 0 (omega arith)) in
     ⊎_elim (λ e. both_ways (is_quote x) quiet.1 (ap is_quote e.0 ∙ quote_34))
     (λ d.
-    ⊎_elim (λ e. quote_stops (x ∷ xs) n 34 0 b quote_34 (λ i. omega arith) (taken_or m 0 33 xs e.2) (prefix_solid x e.0) (omega arith))
+    ⊎_elim (λ e. quote_stops (x ∷ xs) n 34 0 b quote_34 (λ i. omega arith) (taken_or m 0 33 xs e.2) (prefix_named x e.0) (omega arith))
     (λ e. u8_string x xs n m b e.0 (taken_or m 0 55 xs e.1) e.3) d)
     (string_parts x (take m xs) h)
 
@@ -225,11 +342,11 @@ unfolding fits
 piece_stops bs n m White b le plain h lt = white_stops bs n m b le (white_all (take m bs) h) lt
 piece_stops bs n m Comment b le plain h lt = false≢true plain
 piece_stops bs n m LineEnd b le plain h lt = false≢true plain
-piece_stops bs n m (Token Identifier) b le plain h lt = solid_stops bs n m b le (identifier_solid (take m bs) h) lt
-piece_stops bs n m (Token Number) b le plain h lt = solid_stops bs n m b le (number_solid (take m bs) h) lt
+piece_stops bs n m (Token Identifier) b le plain h lt = solid_stops bs n m b le (identifier_solid (take m bs) h) (identifier_joined (take m bs) h) lt
+piece_stops bs n m (Token Number) b le plain h lt = solid_stops bs n m b le (number_solid (take m bs) h) (number_joined (take m bs) h) lt
 piece_stops bs n m (Token Char) b le plain h lt = letter_char bs n m b le h lt
 piece_stops bs n m (Token Str) b le plain h lt = letter_string bs n m b le h lt
-piece_stops bs n m (Token Punct) b le plain h lt = solid_stops bs n m b le (punctuator_solid (take m bs) h) lt
+piece_stops bs n m (Token Punct) b le plain h lt = solid_stops bs n m b le (punctuator_solid (take m bs) h) (punctuator_joined (take m bs) h) lt
 piece_stops bs n m (Token Other) b le plain h lt =
     ⊎_elim (λ e. unclosed_stops bs n m b le e lt) (λ e. stray_stops bs n m b le e lt) (or_cases (is_unclosed (take m bs)) (is_stray (take m bs)) h)
 
@@ -386,7 +503,9 @@ behind_break bs n m b lt =
       some = omega arith;
       within = omega (arith, length-drop m bs);
       quiet = λ k l. ap is_quiet (at k) ∙ b.quiet (m + k) (omega arith);
-      ends = ⊎_elim (λ h. inl (here_ ∙ h)) (λ h. inr (ap is_white before ∙ h.0, ap is_white here_ ∙ h.1)) b.ends;
+      ends = ⊎_elim (λ h. inl (here_ ∙ h))
+          (⊎_elim (λ h. inr (inl (ap is_white before ∙ h.0, ap is_white here_ ∙ h.1)))
+          (λ h. inr (inr (ap (λ (x : ℕ). is_apart x (get_or (drop m bs) (n - m) 0)) before ∙ ap (is_apart (get_or bs (n - 1) 0)) here_ ∙ h)))) b.ends;
     }
 
 -- marks that stand on a line
@@ -413,13 +532,6 @@ StandOn-drop line (suc m) n (x ∷ ms) h =
 abbrev solid : List Piece → List Mark
 solid ps = flat_map (λ p. token_marks p.kind p.marks) ps
 
--- the marks up to a break are cut into white space and tokens
-record Pieces (ms : List Mark) (n : ℕ) : Type 0 where
-  pub pieces : List Piece
-  pub cut : Cuts ms pieces (drop n ms)
-  pub plain : list_all (λ p. is_plain p.kind) pieces ≡ true
-  pub on_line : (line : ℕ) → StandOn line (take n ms) → StandOn line (solid pieces)
-
 token_on_line : (k : PieceKind) (line : ℕ) (ms : List Mark) → StandOn line ms → StandOn line (token_marks k ms)
 token_on_line White line ms h = tt
 token_on_line Comment line ms h = tt
@@ -429,10 +541,10 @@ token_on_line (Token k) line ms h = h
 same_bytes : (m : ℕ) (ms : List Mark) → bytes_of (drop m ms) ≡ drop m (bytes_of ms)
 same_bytes m ms = sym (drop-map (λ (x : Mark). x.byte) m ms)
 
-none_more : (ms : List Mark) (n : ℕ) → Pieces (drop n ms) 0
+none_more : (ms : List Mark) (n : ℕ) → IsPlainTo (drop n ms) 0
 none_more ms n = record { pieces = []; cut = refl; plain = refl; on_line = λ line h. tt }
 
-one_more : (ms : List Mark) (n : ℕ) (f : Front (bytes_of ms) n) → Pieces (drop f.len ms) (n - f.len) → Pieces ms n
+one_more : (ms : List Mark) (n : ℕ) (f : Front (bytes_of ms) n) → IsPlainTo (drop f.len ms) (n - f.len) → IsPlainTo ms n
 one_more ms n f r =
     let within = f.within in
     let p = piece_at f.kind f.len ms in
@@ -448,28 +560,15 @@ one_more ms n f r =
           (r.on_line line (StandOn-drop line f.len (n - f.len) ms (subst (λ (k : ℕ). StandOn line (take k ms)) (sym e2) h)));
     }
 
-pieces_to : (fuel n : ℕ) (ms : List Mark) → n ≤ fuel → IsBreak (bytes_of ms) n → Pieces ms n
+pieces_to : (fuel n : ℕ) (ms : List Mark) → n ≤ fuel → IsBreak (bytes_of ms) n → IsPlainTo ms n
 pieces_to zero n ms le b = absurd (omega (arith, b.some))
 pieces_to (suc fuel) n ms le b =
     let f = front (bytes_of ms) n b in
     let some : 0 < f.len = piece_some (bytes_of ms) f.kind f.len f.stands in
     elim (cases_lt f.len n) [
       | inl lt ↦ one_more ms n f (pieces_to fuel (n - f.len) (drop f.len ms) (omega arith) (subst (λ (bs : List ℕ). IsBreak bs (n - f.len)) (sym (same_bytes f.len ms)) (behind_break (bytes_of ms) n f.len b lt)))
-      | inr ge ↦ (let w = f.within in let z : 0 ≡ n - f.len = omega arith in one_more ms n f (subst (λ (k : ℕ). Pieces (drop f.len ms) k) z (none_more ms f.len)))
+      | inr ge ↦ (let w = f.within in let z : 0 ≡ n - f.len = omega arith in one_more ms n f (subst (λ (k : ℕ). IsPlainTo (drop f.len ms) k) z (none_more ms f.len)))
     ]
-
--- a break among the first bytes is one among all
-break_of_all : (xs bs : List ℕ) (n : ℕ) → xs ≡ take (length xs) bs → IsBreak xs n → IsBreak bs n
-break_of_all xs bs n e b =
-    let within = b.within in
-    let fits_ : length xs ≤ length bs = (let l = ap length e in omega (arith, l, length-take (length xs) bs)) in
-    let at : (k : ℕ) → k < length xs → get_or bs k 0 ≡ get_or xs k 0 = λ k l. sym (get_or-take (length xs) bs k 0 l) ∙ ap (λ (ys : List ℕ). get_or ys k 0) (sym e) in
-    record {
-      some = b.some;
-      within = omega arith;
-      quiet = λ k l. ap is_quiet (at k (omega arith)) ∙ b.quiet k l;
-      ends = ⊎_elim (λ h. inl (at n within ∙ h)) (λ h. inr (ap is_white (at (n - 1) (omega arith)) ∙ h.0, ap is_white (at n within) ∙ h.1)) b.ends;
-    }
 
 -- the first piece is a token
 white_front : (bs : List ℕ) (m : ℕ) → 0 < m → fits White (take m bs) ≡ true → 0 < length bs → is_white (get_or bs 0 0) ≡ true
@@ -487,34 +586,68 @@ by_kind Comment marks ms n ps head full cut plain on_line = absurd (false≢true
 by_kind LineEnd marks ms n ps head full cut plain on_line = absurd (false≢true plain)
 by_kind (Token k) marks ms n ps head full cut plain on_line = record { kind = k; first = marks; pieces = ps; cut = cut; plain = plain; on_line = on_line }
 
-token_first : (ms : List Mark) (n : ℕ) (ps : List Piece) → is_white (get_or (bytes_of ms) 0 0) ≡ false → IsBreak (bytes_of ms) n
+token_first : (ms : List Mark) (n : ℕ) (ps : List Piece) → is_white (get_or (bytes_of ms) 0 0) ≡ false → 0 < n → n ≤ length (bytes_of ms)
     → Cuts ms ps (drop n ms) → list_all (λ (p : Piece). is_plain p.kind) ps ≡ true → ((line : ℕ) → StandOn line (take n ms) → StandOn line (solid ps)) → CutsPlain ms n
-token_first ms n [] head b cut plain on_line =
-    let some = b.some in
-    let within = b.within in
+token_first ms n [] head some within cut plain on_line =
     absurd (omega (arith, ap length cut, length-drop n ms, length-map ms (λ (m : Mark). m.byte)))
-token_first ms n (p ∷ ps) head b cut plain on_line =
-    let some = b.some in
-    let within = b.within in
+token_first ms n (p ∷ ps) head some within cut plain on_line =
     by_kind p.kind p.marks ms n ps head (omega arith) cut plain on_line
 
-first_same : (xs bs : List ℕ) → xs ≡ take (length xs) bs → 0 < length xs → get_or bs 0 0 ≡ get_or xs 0 0
-first_same xs bs e some = sym (get_or-take (length xs) bs 0 0 some) ∙ ap (λ (ys : List ℕ). get_or ys 0 0) (sym e)
+-- what is cut so far, and then a part that is cut
+plain_append : (ms : List Mark) (m n : ℕ) → IsPlainTo ms m → IsPlainTo (drop m ms) n → IsPlainTo ms (m + n)
+plain_append ms m n a b = record {
+  pieces = a.pieces ++ b.pieces;
+  cut = cuts_append ms a.pieces (drop m ms) b.pieces (drop (m + n) ms) a.cut (subst (λ (x : List Mark). Cuts (drop m ms) b.pieces x) (drop-drop n m ms) b.cut);
+  plain = list_all-append (λ (p : Piece). is_plain p.kind) a.pieces b.pieces
+      ∙ and_from (list_all (λ (p : Piece). is_plain p.kind) a.pieces) (list_all (λ (p : Piece). is_plain p.kind) b.pieces) a.plain b.plain;
+  on_line = λ line h.
+      subst (λ (x : List Mark). StandOn line x) (sym (flat_map-append (λ (p : Piece). token_marks p.kind p.marks) a.pieces b.pieces))
+      (StandOn-append line (solid a.pieces) (solid b.pieces) (a.on_line line (StandOn-take line m (m + n) ms (omega arith) h)) (b.on_line line (StandOn-drop line m n ms h)));
+}
 
-pub cuts_plain : (xs : List ℕ) (n : ℕ) → IsBreak xs n → is_white (get_or xs 0 0) ≡ false → (ms : List Mark) → AreFirstOf xs ms → CutsPlain ms n
-cuts_plain xs n b head ms e =
-    let within = b.within in
-    let all = break_of_all xs (bytes_of ms) n e b in
-    let r = pieces_to n n ms (omega arith) all in
-    token_first ms n r.pieces (ap is_white (first_same xs (bytes_of ms) e (omega arith)) ∙ head) all r.cut r.plain r.on_line
+one_token : (ms : List Mark) (kind : TokenKind) (len : ℕ) → StandsFirst (bytes_of ms) (first.Piece (Token kind) len) → IsPlainTo ms len
+one_token ms kind len h = record {
+  pieces = piece_at (Token kind) len ms ∷ [];
+  cut = cuts_one ms (Token kind) len h;
+  plain = refl;
+  on_line = λ line g. StandOn-append line (take len ms) [] g tt;
+}
 
--- quiet bytes at the front
-pub quiet_front : (xs : List ℕ) (k : ℕ) → k < prefix_len is_quiet xs → is_quiet (get_or xs k 0) ≡ true
-quiet_front xs k lt = taken_at is_quiet xs (prefix_len is_quiet xs) k (prefix_within is_quiet xs) (all_prefix is_quiet xs) lt
+-- the bytes are those of marks that are cut up to a place
+abbrev pub IsPlainOf : List ℕ → ℕ → Type 0
+IsPlainOf bs n = (ms : List Mark) → bs ≡ bytes_of ms → IsPlainTo ms n
 
-pub quiet_no_feed : (xs : List ℕ) (n k : ℕ) → IsBreak xs n → k < n → (get_or xs k 0 == 10) ≡ false
+pub plain_none : (bs : List ℕ) → IsPlainOf bs 0
+plain_none bs ms e = record { pieces = []; cut = refl; plain = refl; on_line = λ line h. tt }
+
+pub plain_break : (bs : List ℕ) (at end : ℕ) → at ≤ end → (at < end → IsBreak (drop at bs) (end - at)) → IsPlainOf bs at → IsPlainOf bs end
+plain_break bs at end le b before ms e =
+    elim (cases_lt at end) [
+      | inl lt ↦ (
+          let there_ : at + (end - at) ≡ end = omega arith in
+          let here_ : IsBreak (bytes_of (drop at ms)) (end - at) = subst (λ (l : List ℕ). IsBreak l (end - at)) (ap (drop at) e ∙ sym (same_bytes at ms)) (b lt) in
+          subst (λ (k : ℕ). IsPlainTo ms k) there_ (plain_append ms at (end - at) (before ms e) (pieces_to (end - at) (end - at) (drop at ms) (omega arith) here_))
+          )
+      | inr ge ↦ (let same : at ≡ end = omega arith in subst (λ (k : ℕ). IsPlainTo ms k) same (before ms e))
+    ]
+
+pub plain_token : (bs : List ℕ) (at end : ℕ) → at < end → IsTokenAt bs at end → IsPlainOf bs at → IsPlainOf bs end
+plain_token bs at end lt t before ms e =
+    let there_ : at + (end - at) ≡ end = omega arith in
+    let here_ : StandsFirst (bytes_of (drop at ms)) (first.Piece (Token t.0) (end - at)) = subst (λ (l : List ℕ). StandsFirst l (first.Piece (Token t.0) (end - at))) (ap (drop at) e ∙ sym (same_bytes at ms)) t.1 in
+    subst (λ (k : ℕ). IsPlainTo ms k) there_ (plain_append ms at (end - at) (before ms e) (one_token (drop at ms) t.0 (end - at) here_))
+
+pub cuts_plain : (bs : List ℕ) (n : ℕ) → 0 < n → n ≤ length bs → is_white (get_or bs 0 0) ≡ false → IsPlainOf bs n → (ms : List Mark) → bs ≡ bytes_of ms → CutsPlain ms n
+cuts_plain bs n some within head plain ms e =
+    let r = plain ms e in
+    token_first ms n r.pieces (ap (λ (l : List ℕ). is_white (get_or l 0 0)) (sym e) ∙ head) some (omega (arith, ap length e)) r.cut r.plain r.on_line
+
+-- no line ends before the end of quiet bytes, nor in a token
+pub quiet_no_feed : (bs : List ℕ) (at end : ℕ) → ((k : ℕ) → k < at → (get_or bs k 0 == 10) ≡ false) → ((k : ℕ) → at ≤ k → k < end → is_quiet (get_or bs k 0) ≡ true)
+    → (k : ℕ) → k < end → (get_or bs k 0 == 10) ≡ false
 unfolding is_line_feed
-quiet_no_feed xs n k b lt = (quiet_parts (get_or xs k 0) (b.quiet k lt)).0
+quiet_no_feed bs at end before quiet k lt =
+    elim (cases_lt k at) [ inl l ↦ before k l | inr ge ↦ (quiet_parts (get_or bs k 0) (quiet k ge lt)).0 ]
 
 -- white bytes at the front
 white_class : (b : ℕ) → is_white b ≡ true → class_of b ≡ classes.White

@@ -1,25 +1,27 @@
 //! Bytes that are cut into white space and tokens alone, found without a look at each piece.
-ghost use Rattle.std.specs.Prelude.{ℕ, ◌≡◌, ◌⊎◌, ◌↔◌, IsTrue, ◌+◌, ◌-◌, ◌<◌, ◌≤◌, true, false, List, length, slice_index};
+ghost use Rattle.std.specs.Prelude.{ℕ, ◌≡◌, ◌≢◌, ◌↔◌, IsTrue, ◌+◌, ◌-◌, ◌<◌, ◌≤◌, ◌==◌, ◌&&◌, ◌||◌, true, false, List, length, drop, slice_index, IfSome};
 ghost use Rattle.std.specs.List.{prefix_len};
 ghost use Rattle.cb_lines.specs.declared.mark.Mark.{Mark};
-ghost use Rattle.cb_lines.specs.Marks.{is_line_feed};
+ghost use Rattle.cb_lines.specs.Marks.{bytes_of, is_line_feed};
 ghost use Rattle.cb_tokens.specs.Cut.{StandsFirst};
 ghost use Rattle.cb_tokens.specs.Forms.{is_white};
-ghost use Rattle.cb_tokens.specs.Plain.{is_quiet, IsBreak, CutsPlain, AreFirstOf};
+ghost use Rattle.cb_tokens.specs.Plain.{is_quiet, is_apart, IsBreak, IsTokenAt, CutsPlain};
 ghost use Rattle.cb_tokens.specs.declared.first.First.{First};
 ghost use Rattle.cb_tokens.specs.declared.token.PieceKind.{PieceKind};
 ghost use Rattle.cb_tokens.specs.declared.token.TokenKind.{TokenKind};
 
+use crate::first::{First, first_piece};
 use crate::lanes::quiet_end;
-use crate::runs::{byte_at, is_line_feed, white_len};
-use crate::table::is_white;
+use crate::runs::{behind, byte_at, is_line_feed, white_len};
+use crate::table::{is_name_byte, is_white};
+use crate::token::{PieceKind, TokenKind};
 
 /// Bytes at the front that need no look at each piece.
 #[derive(Clone, Copy)]
 pub struct Stretch {
     /// How many are cut into a token, and then white space and tokens; 0 where that is not known.
     pub len: usize,
-    /// How many stand before the first LF, quote or slash.
+    /// How many were looked at: those before an LF, a quote or a slash that it does not go past.
     pub seen: usize,
 }
 
@@ -62,13 +64,6 @@ pub fn begins_with_hash(bytes: &[u8]) -> bool
     byte_at(bytes, 1) != b'#'
 }
 
-/// The number of quiet bytes at the front.
-fn quiet_len(bytes: &[u8]) -> usize
-    ensures { result ≡ prefix_len is_quiet bytes.now }
-{
-    quiet_end(bytes, 0, bytes.len())
-}
-
 /// Whether a byte that is not white stands at a place, directly behind a white one.
 #[inline]
 fn ends_white(bytes: &[u8], at: usize) -> bool
@@ -79,20 +74,20 @@ fn ends_white(bytes: &[u8], at: usize) -> bool
     is_white(bytes[at - 1]) && !is_white(bytes[at])
 }
 
-/// The last place up to one where white space ends; 0 where there is none.
-fn last_end_of_white(bytes: &[u8], from: usize) -> usize
-    requires { from < length bytes.now }
-    ensures within { result ≤ from }
-    ensures ends { 0 < result → (is_white (slice_index bytes.now (result - 1)) ≡ true) × (is_white (slice_index bytes.now result) ≡ false) }
+/// The last place between two where white space ends, this among them; the first one where there is none.
+fn last_end_of_white(bytes: &[u8], from: usize, to: usize) -> usize
+    requires { (from ≤ to) × (to < length bytes.now) }
+    ensures within { (from ≤ result) × (result ≤ to) }
+    ensures ends { from < result → (is_white (slice_index bytes.now (result - 1)) ≡ true) × (is_white (slice_index bytes.now result) ≡ false) }
 {
-    let mut at = from;
-    'places: while at > 0 {
+    let mut at = to;
+    'places: while at > from {
         if ends_white(bytes, at) {
             return at;
         }
         at -= 1;
     }
-    0
+    from
 }
 
 /// Whether an LF stands at a place.
@@ -105,36 +100,94 @@ fn is_feed_at(bytes: &[u8], at: usize) -> bool
     at < bytes.len() && is_line_feed(bytes[at])
 }
 
-/// The bytes at the front up to a place that no piece goes over: the first LF, or the last end of white space before it, before the
-/// first quote and the first slash.
-pub fn plain_stretch(bytes: &[u8]) -> Stretch
-    ensures seen { result.seen ≡ prefix_len is_quiet bytes.now }
-    ensures within { (result.len ≤ result.seen) × (result.seen ≤ length bytes.now) }
-    ensures line { is_white (slice_index bytes.now 0) ≡ false → slice_index bytes.now result.seen ≡ 10 → result.len ≡ result.seen }
-    ensures inside { 0 < result.len → result.len < length bytes.now }
-    ensures no_feed { (k : ℕ) → k < result.len → is_line_feed (slice_index bytes.now k) ≡ false }
-    ensures cut { (ms : List Mark) → AreFirstOf bytes.now ms → 0 < result.len → CutsPlain ms result.len }
+/// Whether a piece may go over to a byte that is not quiet from the one before it: to a quote behind what a name goes on with.
+#[inline]
+#[tactic(auto, unfolding(crate::specs::Plain::is_quiet, crate::specs::Plain::is_apart, crate::specs::Forms::is_line_feed, crate::specs::Forms::is_quote))]
+fn may_go_on(before: u8, byte: u8) -> bool
+    requires { is_quiet byte ≡ false }
+    ensures feed { byte ≡ 10 → result ≡ false }
+    ensures apart { result ≡ false → byte ≢ 10 → is_apart before byte ≡ true }
 {
-    let seen = quiet_len(bytes);
-    let len = stretch_to(bytes, seen);
-    Stretch { len, seen }
+    (byte == b'"' || byte == b'\'') && is_name_byte(before)
 }
 
-/// The last place up to the end of quiet bytes that no piece goes over, if one is found.
-fn stretch_to(bytes: &[u8], seen: usize) -> usize
-    requires within { seen ≤ length bytes.now }
-    requires quiet { (k : ℕ) → k < seen → is_quiet (slice_index bytes.now k) ≡ true }
-    ensures within { result ≤ seen }
-    ensures stops { 0 < result → IsBreak bytes.now result × (is_white (slice_index bytes.now 0) ≡ false) }
-    ensures line { is_white (slice_index bytes.now 0) ≡ false → slice_index bytes.now seen ≡ 10 → result ≡ seen }
+/// The last place that no piece goes over from the begin of quiet bytes, which a piece begins, to their end; the begin where there is none.
+fn last_break(bytes: &[u8], from: usize, seen: usize, end: usize) -> usize
+    requires within { (from ≤ seen) × (from < end) × (seen ≤ end) × (end ≤ length bytes.now) }
+    requires quiet { (k : ℕ) → from ≤ k → k < seen → is_quiet (slice_index bytes.now k) ≡ true }
+    requires loud { seen < end → is_quiet (slice_index bytes.now seen) ≡ false }
+    ensures within { (from ≤ result) × (result ≤ seen) × (result < end) }
+    ensures stops { from < result → IsBreak (drop from bytes.now) (result - from) }
+    ensures line { seen < end → slice_index bytes.now seen ≡ 10 → result ≡ seen }
 {
-    if seen == 0 || is_white(bytes[0]) {
-        return 0;
+    if seen == from {
+        return from;
     }
-    if is_feed_at(bytes, seen) {
-        return seen;
+    if seen == end {
+        return last_end_of_white(bytes, from, end - 1);
     }
-    last_end_of_white(bytes, seen.min(bytes.len() - 1))
+    if may_go_on(bytes[seen - 1], bytes[seen]) {
+        return last_end_of_white(bytes, from, seen);
+    }
+    seen
+}
+
+/// Whether a line end or a comment begins at a place.
+#[inline]
+fn begins_no_token(bytes: &[u8], at: usize) -> bool
+    requires { at < length bytes.now }
+    ensures { result ≡ ((slice_index bytes.now at == 10)
+        || ((slice_index bytes.now at == 47) && ((slice_index bytes.now (at + 1) == 47) || (slice_index bytes.now (at + 1) == 42)))) }
+{
+    let byte = bytes[at];
+    byte == b'\n' || (byte == b'/' && matches!(byte_at(bytes, at + 1), b'/' | b'*'))
+}
+
+/// The end of the token at a place, where it goes over another place and ends before a third.
+fn token_over(bytes: &[u8], from: usize, over: usize, end: usize) -> Option<usize>
+    requires { (from ≤ over) × (over ≤ end) × (from < end) × (end ≤ length bytes.now) }
+    ensures within { IfSome result (λ next. (over < next) × (next < end)) }
+    ensures token { IfSome result (IsTokenAt bytes.now from) }
+{
+    if over == end || begins_no_token(bytes, over) {
+        return None;
+    }
+    match first_piece(behind(bytes, from)) {
+        First::Piece {
+            kind: PieceKind::Token(_),
+            len,
+        } if over - from < len && len < end - from => Some(from + len),
+        _ => None,
+    }
+}
+
+/// The bytes at the front up to a place that no piece goes over, among the first so many: a line end, the begin of a comment, or else
+/// the last end of white space before what has to be looked at piece by piece. It goes past quotes, and past slashes that begin no
+/// comment.
+pub fn plain_stretch(bytes: &[u8], end: usize) -> Stretch
+    requires { end ≤ length bytes.now }
+    ensures seen { result.seen < end → is_quiet (slice_index bytes.now result.seen) ≡ false }
+    ensures within { (result.len ≤ result.seen) × (result.seen ≤ end) }
+    ensures line { is_white (slice_index bytes.now 0) ≡ false → result.seen < end → slice_index bytes.now result.seen ≡ 10 → result.len ≡ result.seen }
+    ensures inside { 0 < result.len → result.len < end }
+    ensures no_feed { (k : ℕ) → k < result.seen → is_line_feed (slice_index bytes.now k) ≡ false }
+    ensures cut { (ms : List Mark) → bytes.now ≡ bytes_of ms → 0 < result.len → CutsPlain ms result.len }
+{
+    let mut at = 0;
+    if end == 0 || is_white(bytes[0]) {
+        return Stretch {
+            len: 0,
+            seen: quiet_end(bytes, 0, end),
+        };
+    }
+    'runs: loop {
+        let seen = quiet_end(bytes, at, end);
+        let len = last_break(bytes, at, seen, end);
+        match token_over(bytes, len, seen, end) {
+            Some(next) => at = next,
+            None => return Stretch { len, seen },
+        }
+    }
 }
 
 #[cfg(test)]
@@ -146,15 +199,18 @@ mod tests {
     fn stretches_end_where_no_piece_goes_on(rt: HostRuntime) -> Result<(), Fail> {
         for (bytes, white, len, seen) in [
             (b"a + b;\nc".as_slice(), 0, 6, 6),
-            (b"print(a, \"b c\");\n".as_slice(), 0, 9, 9),
-            (b"print(\"b c\");\n".as_slice(), 0, 0, 6),
-            (b"a L'b'\n".as_slice(), 0, 2, 3),
+            (b"print(a, \"b c\");\n".as_slice(), 0, 16, 16),
+            (b"print(\"b c\" / 'd');\n".as_slice(), 0, 19, 19),
+            (b"a L'b'\n".as_slice(), 0, 6, 6),
+            (b"a(L'b')\n".as_slice(), 0, 0, 3),
+            (b"a = 1'000 + \"b // c\" + d; // e\n".as_slice(), 0, 26, 26),
+            (b"a \"b\n".as_slice(), 0, 4, 4),
             (b"a /* b */\n".as_slice(), 0, 2, 2),
             (b"a b".as_slice(), 0, 2, 3),
             (b" \ta\n".as_slice(), 2, 0, 3),
         ] {
             assert_eq!(rt; white_front(bytes), white, "in {bytes:?}");
-            let stretch = plain_stretch(bytes);
+            let stretch = plain_stretch(bytes, bytes.len());
             assert_eq!(rt; stretch.len, len, "in {bytes:?}");
             assert_eq!(rt; stretch.seen, seen, "in {bytes:?}");
         }

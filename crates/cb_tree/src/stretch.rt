@@ -82,12 +82,12 @@ fn pass_stretch(
         return Ok(place);
     }
     pass_white(walk);
-    let row = walk.row();
-    if may_be_directive(place, row) {
+    let bytes = walk.rest();
+    if may_be_directive(place, bytes) {
         return Ok(place);
     }
-    let stretch = plain_stretch(row);
-    *most = walk.rest().len() - stretch.seen;
+    let stretch = plain_stretch(bytes, walk.row().len());
+    *most = bytes.len() - stretch.seen;
     if stretch.len == 0 {
         return Ok(place);
     }
@@ -143,11 +143,11 @@ pub(crate) fn begin_run(alloc: Global, walk: &mut Walk) -> Option<Begun>
     ensures shorter { IfSome result (λ _. length walk.new < length walk.old) }
     ensures few { IfSome result (λ run. length run.counted + length walk.new ≤ length walk.old) }
 {
-    let row = walk.row();
-    if may_be_directive(Place::LineStart, row) {
+    let bytes = walk.rest();
+    if may_be_directive(Place::LineStart, bytes) {
         return None;
     }
-    let stretch = plain_stretch(row);
+    let stretch = plain_stretch(bytes, walk.row().len());
     if stretch.len == 0 {
         return None;
     }
