@@ -1,9 +1,9 @@
 -- The end of a block comment, a byte at a time.
-use Rattle.std.proofs.Common.{◌≡◌, ℕ, suc, zero, ◌+◌, ◌<◌, ◌≤◌, ◌==◌, true, false, ◌&&◌, Option, Some, None, List, [], ◌∷◌, length, get_or, take, drop, zero-add, add-zero, length-take-le, sym, refl, ap, ◌∙◌, subst, arith, ⊎_elim}
+use Rattle.std.proofs.Common.{◌≡◌, ℕ, suc, zero, ◌+◌, ◌-◌, ◌<◌, ◌≤◌, ◌==◌, true, false, ◌&&◌, Option, Some, None, List, [], ◌∷◌, length, get_or, take, drop, zero-add, add-zero, length-take-le, sym, refl, ap, ◌∙◌, subst, arith, ⊎_elim}
 use Rattle.std.proofs.lemmas.Bool.{eqb-true, and_parts, and_right, cases_lt, cond-false}
 use Rattle.std.proofs.lemmas.List.{drop_all, get_or_past}
 use Rattle.cb_tokens.specs.Forms.{begins_with, ends_comment, has_comment_end}
-use Rattle.cb_tokens.specs.Scan.{IsLongest, EndsComment}
+use Rattle.cb_tokens.specs.Scan.{ends_with, IsLongest, EndsComment}
 use Rattle.cb_tokens.proofs.Longest.{AreWithin, longest_on, split_at, head_at}
 
 begins_short : (b : ℕ) (bs : List ℕ) → begins_with 42 47 (b ∷ bs) ≡ ((b == 42) && (get_or bs 0 0 == 47))
@@ -94,3 +94,16 @@ none_left = refl
 
 pub ahead_end : (xs : List ℕ) (n : ℕ) → length xs ≤ n → CommentAhead xs n → EndsComment xs None
 ahead_end xs n h ahead = ahead None (subst (λ ys. EndsComment ys None) (sym (drop_all n xs h)) none_left)
+
+-- over bytes at which it does not end
+ahead_by : (xs : List ℕ) (d n : ℕ) → n + d ≤ length xs → ((k : ℕ) → n ≤ k → k < n + d → ends_with (get_or xs k 0) (get_or xs (k + 1) 0) ≡ false) → CommentAhead xs n → CommentAhead xs (n + d)
+unfolding ends_with
+ahead_by xs zero n le goes ahead = let e : n ≡ n + 0 = omega arith in subst (CommentAhead xs) e ahead
+ahead_by xs (suc d) n le goes ahead =
+    let e : (n + 1) + d ≡ n + suc d = omega arith in
+    subst (CommentAhead xs) e (ahead_by xs d (n + 1) (omega arith) (λ k low lt. goes k (omega arith) (omega arith)) (ahead_more xs n (omega arith) (goes n (omega arith) (omega arith)) ahead))
+
+pub ahead_run : (xs : List ℕ) (n m : ℕ) → n ≤ m → m ≤ length xs → ((k : ℕ) → n ≤ k → k < m → ends_with (get_or xs k 0) (get_or xs (k + 1) 0) ≡ false) → CommentAhead xs n → CommentAhead xs m
+ahead_run xs n m le within goes ahead =
+    let e : n + (m - n) ≡ m = omega arith in
+    subst (CommentAhead xs) e (ahead_by xs (m - n) n (omega arith) (λ k low lt. goes k low (omega arith)) ahead)

@@ -1,9 +1,9 @@
 -- The end of a quote, a byte at a time.
-use Rattle.std.proofs.Common.{◌≡◌, ℕ, suc, zero, ◌+◌, ◌<◌, ◌≤◌, ◌==◌, Bool, true, false, not, cond, ◌&&◌, ◌||◌, List, [], ◌∷◌, length, get_or, take, drop, ltb, zero-add, add-zero, sym, refl, ap, ◌∙◌, subst, arith, ◌⊎◌, inl, inr, ⊎_elim}
+use Rattle.std.proofs.Common.{◌≡◌, ℕ, suc, zero, ◌+◌, ◌-◌, ◌<◌, ◌≤◌, ◌==◌, Bool, true, false, not, cond, ◌&&◌, ◌||◌, List, [], ◌∷◌, length, get_or, take, drop, ltb, zero-add, add-zero, sym, refl, ap, ◌∙◌, subst, arith, ◌⊎◌, inl, inr, ⊎_elim}
 use Rattle.std.proofs.lemmas.Bool.{false≢true, or_cases, eqb-true, eq-eqb, lt-ltb, cases_lt, cases_Bool, and_parts, ltb-true, not-true, cond-true, cond-false}
 use Rattle.std.proofs.lemmas.List.{drop_all}
 use Rattle.cb_tokens.specs.Forms.{is_quote, is_line_feed, closes, stays_unclosed}
-use Rattle.cb_tokens.specs.Scan.{HasNone, EndsQuote, quote_step}
+use Rattle.cb_tokens.specs.Scan.{is_inner, HasNone, EndsQuote, quote_step}
 use Rattle.cb_tokens.specs.declared.quote.QuoteEnd.{QuoteEnd}
 use Rattle.cb_tokens.specs.declared.quote.QuoteEnd.TheVariants.{Closed, Unclosed}
 use Rattle.cb_tokens.proofs.Longest.{AreWithin, within_on, longest_on, none_on, within_over, longest_over, none_over, split_at}
@@ -239,3 +239,26 @@ ahead_step q xs n quote h other stays ahead =
       ahead_on q xs n quote h (record { other = other; stays = stays; alone = alone_at xs n e }) ahead,
     ))
     (cases_Bool (escapes && same))
+
+-- over bytes within the quote
+inner_parts : (q b : ℕ) → is_inner q b ≡ true → ((b == q) ≡ false) × ((b == 92) ≡ false) × (is_line_feed b ≡ false)
+unfolding is_inner
+inner_parts q b h =
+    let none = not-true ((b == q) || (b == 92) || is_line_feed b) h in
+    grind (arith)
+
+ahead_by : (q : ℕ) (xs : List ℕ) (d n : ℕ) → is_quote q ≡ true → n + d ≤ length xs → ((k : ℕ) → n ≤ k → k < n + d → is_inner q (get_or xs k 0) ≡ true) → QuoteAhead q xs n → QuoteAhead q xs (n + d)
+ahead_by q xs zero n quote le inner ahead = let e : n ≡ n + 0 = omega arith in subst (QuoteAhead q xs) e ahead
+ahead_by q xs (suc d) n quote le inner ahead =
+    let p = inner_parts q (get_or xs n 0) (inner n (omega arith) (omega arith)) in
+    let e : (n + 1) + d ≡ n + suc d = omega arith in
+    let one = ahead_on q xs n quote (omega arith) (plain_of q (get_or xs n 0) (drop (n + 1) xs) p.0 p.2 p.1) ahead in
+    subst (QuoteAhead q xs) e (ahead_by q xs d (n + 1) quote (omega arith) (λ k low lt. inner k (omega arith) (omega arith)) one)
+
+pub ahead_run : (q : ℕ) (xs : List ℕ) (n m : ℕ) → is_quote q ≡ true → n ≤ m → m ≤ length xs → ((k : ℕ) → n ≤ k → k < m → is_inner q (get_or xs k 0) ≡ true) → QuoteAhead q xs n → QuoteAhead q xs m
+ahead_run q xs n m quote le within inner ahead =
+    let e : n + (m - n) ≡ m = omega arith in
+    subst (QuoteAhead q xs) e (ahead_by q xs (m - n) n quote (omega arith) (λ k low lt. inner k low (omega arith)) ahead)
+
+pub quote_some : (q : ℕ) → is_quote q ≡ true → 0 < q
+quote_some q h = for_quote (λ q. 0 < q) q h (omega arith) (omega arith)

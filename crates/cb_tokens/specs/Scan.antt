@@ -1,5 +1,5 @@
 -- What the scanners of single forms answer. No public clause names these words.
-use Rattle.std.specs.Prelude.{◌≡◌, ℕ, ◌+◌, ◌≤◌, ◌==◌, ◌&&◌, Bool, true, false, not, nat_lt, if◌then◌else◌, List, length, take, slice_index, Option, Some, None}
+use Rattle.std.specs.Prelude.{◌≡◌, ℕ, ◌+◌, ◌≤◌, ◌==◌, ◌&&◌, ◌||◌, Bool, true, false, not, nat_lt, if◌then◌else◌, List, length, take, slice_index, Option, Some, None}
 use Rattle.std.specs.List.{list_any}
 use Rattle.cb_tokens.specs.Forms.{is_quote, is_line_feed, punctuators, closes, stays_unclosed, ends_comment, has_comment_end}
 use Rattle.cb_tokens.specs.declared.token.TokenKind.{TokenKind}
@@ -48,3 +48,11 @@ prefix_before_quote bytes =
 -- the second byte of some punctuator (own)
 unfoldable pub is_second : ℕ → Bool
 is_second byte = list_any (λ p. nat_lt 1 (length p) && (slice_index p 1 == byte)) punctuators
+
+-- within a quote, and neither its end, nor an escape, nor a line end (own)
+unfoldable pub is_inner : ℕ → ℕ → Bool
+is_inner quote byte = not ((byte == quote) || (byte == 92) || is_line_feed byte)
+
+-- the end of a comment begins with these two bytes (6.4.9)
+unfoldable pub ends_with : ℕ → ℕ → Bool
+ends_with first second = (first == 42) && (second == 47)

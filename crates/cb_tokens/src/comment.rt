@@ -2,6 +2,8 @@
 ghost use Rattle.std.specs.Prelude.{◌≡◌, ◌==◌, ◌&&◌, ◌+◌, ◌<◌, length, slice_index};
 ghost use Rattle.cb_tokens.specs.Scan.{EndsComment};
 
+use crate::lanes::endless_to;
+
 /// Whether `*/` stands at an index.
 #[inline]
 fn ends_at(bytes: &[u8], index: usize) -> bool
@@ -20,6 +22,7 @@ pub(crate) fn comment_end(bytes: &[u8]) -> Option<usize>
 {
     let mut n = 0;
     'bytes: while n < bytes.len() {
+        n = endless_to(bytes, n);
         if ends_at(bytes, n) {
             return Some(n + 2);
         }

@@ -2,6 +2,7 @@
 ghost use Rattle.std.specs.Prelude.{ℕ, ◌≡◌, ◌≢◌, ◌↔◌, ◌+◌, ◌<◌, ◌≤◌, true, false, length, slice_index};
 ghost use Rattle.std.specs.Int.{bit_at};
 ghost use Rattle.cb_tokens.specs.Plain.{is_quiet};
+ghost use Rattle.cb_tokens.specs.Scan.{is_inner, ends_with};
 
 use crate::table::is_quiet;
 use std::simd::prelude::*;
@@ -89,4 +90,63 @@ fn quiet_end_of_few(bytes: &[u8], from: usize, end: usize) -> usize
         at += 1;
     }
     end
+}
+
+/// A bit for each of the 32 bytes from a place, set where a quote like this, a backslash or a line end stands.
+#[inline(always)]
+fn stop_bits(quote: u8, bytes: &[u8], at: usize) -> u64
+    requires some { 0 < quote }
+    requires room { at + 32 ≤ length bytes.now }
+    ensures within { (k : ℕ) → bit_at result k ≡ 1 → k < 32 }
+    ensures inner { (k : ℕ) → k < 32 → bit_at result k ≡ 0 → is_inner quote (slice_index bytes.now (at + k)) ≡ true }
+{
+    let ahead = load(bytes, at);
+    bits_of(ahead, quote) | bits_of(ahead, b'\\') | bits_of(ahead, b'\n')
+}
+
+/// A place from one on, up to which no quote like this ends, nothing is escaped and no line ends.
+#[inline]
+pub(crate) fn inner_end(quote: u8, bytes: &[u8], from: usize) -> usize
+    requires some { 0 < quote }
+    requires room { from < length bytes.now }
+    ensures within { (from ≤ result) × (result < length bytes.now) }
+    ensures inner { (k : ℕ) → from ≤ k → k < result → is_inner quote (slice_index bytes.now k) ≡ true }
+{
+    let mut at = from;
+    'lanes: while bytes.len() - at > LANES {
+        let stops = stop_bits(quote, bytes, at);
+        if stops != 0 {
+            return at + lowest(stops);
+        }
+        at += LANES;
+    }
+    at
+}
+
+/// A bit for each of the 32 bytes from a place, set where `*/` stands.
+#[inline(always)]
+fn end_bits(bytes: &[u8], at: usize) -> u64
+    requires { at + 33 ≤ length bytes.now }
+    ensures within { (k : ℕ) → bit_at result k ≡ 1 → k < 32 }
+    ensures goes { (k : ℕ) → k < 32 → bit_at result k ≡ 0 → ends_with (slice_index bytes.now (at + k)) (slice_index bytes.now (at + k + 1)) ≡ false }
+{
+    bits_of(load(bytes, at), b'*') & bits_of(load(bytes, at + 1), b'/')
+}
+
+/// A place from one on, up to which no comment ends.
+#[inline]
+pub(crate) fn endless_to(bytes: &[u8], from: usize) -> usize
+    requires { from < length bytes.now }
+    ensures within { (from ≤ result) × (result < length bytes.now) }
+    ensures goes { (k : ℕ) → from ≤ k → k < result → ends_with (slice_index bytes.now k) (slice_index bytes.now (k + 1)) ≡ false }
+{
+    let mut at = from;
+    'lanes: while bytes.len() - at > LANES {
+        let ends = end_bits(bytes, at);
+        if ends != 0 {
+            return at + lowest(ends);
+        }
+        at += LANES;
+    }
+    at
 }

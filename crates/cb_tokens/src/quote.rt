@@ -3,6 +3,7 @@ ghost use Rattle.std.specs.Prelude.{◌≡◌, ◌<◌, true, length};
 ghost use Rattle.cb_tokens.specs.Forms.{is_quote};
 ghost use Rattle.cb_tokens.specs.Scan.{EndsQuote, quote_step};
 
+use crate::lanes::inner_end;
 use crate::runs::is_line_feed;
 
 /// How a quote goes on behind its opening byte.
@@ -36,6 +37,7 @@ pub(crate) fn quote_end(quote: u8, bytes: &[u8]) -> QuoteEnd
 {
     let mut n = 0;
     'bytes: while n < bytes.len() {
+        n = inner_end(quote, bytes, n);
         let byte = bytes[n];
         if byte == quote {
             return QuoteEnd::Closed(n + 1);
