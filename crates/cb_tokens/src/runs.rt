@@ -4,6 +4,7 @@ ghost use Rattle.std.specs.List.{prefix_len};
 ghost use Rattle.cb_tokens.specs.Forms.{is_white, is_name_byte, is_line_feed};
 
 use crate::table::{is_name_byte, is_white};
+use memchr::memchr;
 
 /// The byte at an index, or 0 past the end.
 #[inline]
@@ -49,5 +50,8 @@ pub(crate) fn name_len(bytes: &[u8]) -> usize
 pub(crate) fn line_len(bytes: &[u8]) -> usize
     ensures { result ≡ prefix_len (λ b. not (is_line_feed b)) bytes.now }
 {
-    bytes.iter().take_while(|b| !is_line_feed(**b)).count()
+    match memchr(b'\n', bytes) {
+        Some(len) => len,
+        None => bytes.len(),
+    }
 }
