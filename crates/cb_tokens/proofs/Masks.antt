@@ -1,15 +1,16 @@
 -- Masks of lanes, bit by bit.
-use Rattle.std.proofs.Common.{◌≡◌, ◌↔◌, ◌⊎◌, ℕ, ◌+◌, ◌-◌, ◌<◌, ◌≤◌, ◌==◌, List, Bool, true, false, cond, length, get_or, map, refl, sym, ap, ◌∙◌, subst, arith, bit_or, bit_and, ◌&&◌, inl, inr, ⊎_elim}
-use Rattle.std.specs.Int.{bit_at}
-use Rattle.std.specs.Simd.Lanes.{mask_l}
+use Rattle.std.proofs.Common.{◌≡◌, ◌↔◌, ◌⊎◌, ℕ, ◌+◌, ◌-◌, ◌<◌, ◌≤◌, ◌==◌, ◌%◌, ◌^◌, List, [], ◌∷◌, Bool, true, false, cond, length, get_or, map, refl, sym, ap, ◌∙◌, subst, arith, bit_or, bit_and, ◌&&◌, ◌||◌, leb, replicate, w8, w64, inl, inr, ⊎_elim}
+use Rattle.std.specs.Int.{bit_at, bit_not}
+use Rattle.std.specs.Simd.Lanes.{mask_l, zip2, top}
 use lib.Dec.{eqb}
-use Rattle.std.proofs.lemmas.Bool.{eqb-true, ne_eqb, cases_lt, cases_order}
+use Rattle.std.proofs.lemmas.Bool.{eqb-true, ne_eqb, cases_lt, cases_order, agree_below, agree_below_at}
 use Rattle.std.proofs.lemmas.Bool.Decides.{nat_tests}
-use Rattle.std.proofs.lemmas.List.{get_or_past}
-use Rattle.std.proofs.lemmas.Simd.{bit_mask_l}
-use Rattle.std.proofs.lemmas.Nat.Bits.{bit_at_or, bit_at_and, bit_at-lt}
+use Rattle.std.proofs.lemmas.List.{get_or_past, length-map}
+use Rattle.std.proofs.lemmas.List.{get_or-map as get_or-map_at}
+use Rattle.std.proofs.lemmas.Simd.{bit_mask_l, tops_compared, mask_l-mod}
+use Rattle.std.proofs.lemmas.Nat.Bits.{bit_at_or, bit_at_and, bit_at_not, bit_at-lt}
 use Rattle.std.proofs.Math.ListN.{get_or-map}
-use Rattle.cb_tokens.specs.Forms.{is_line_feed, is_quote}
+use Rattle.cb_tokens.specs.Forms.{is_line_feed, is_quote, is_name_byte, is_name_start}
 use Rattle.cb_tokens.specs.Plain.{is_quiet}
 use Rattle.cb_tokens.specs.Scan.{is_inner, ends_with}
 
@@ -117,3 +118,73 @@ pass_on p t from at n before behind k low lt =
       | inl l ↦ before k low l
       | inr ge ↦ (let e : at + (k - at) ≡ k = omega arith in subst (λ (i : ℕ). p i ≡ t) e (behind (k - at) (omega arith)))
     ]
+
+splat_zip2 : {Z : Type 0} (f : ℕ → ℕ → Z) (x : ℕ) (ys : List ℕ) → zip2 f (replicate (length ys) x) ys ≡ map (f x) ys
+splat_zip2 f x [] = refl
+splat_zip2 f x (y ∷ ys) = ap (λ rest. f x y ∷ rest) (splat_zip2 f x ys)
+
+-- bit k of the mask of a test of each lane
+lane_bit : (f : ℕ → Bool) (v : List ℕ) (k : ℕ) → k < length v → bit_at (mask_l (map f v)) k ≡ cond (f (get_or v k 0)) 1 0
+lane_bit f v k lt = bit_mask_l (map f v) k ∙ ap (λ t. cond {A = ℕ} t 1 0) (get_or-map_at f v k 0 false lt)
+
+pub low_mask : (low : ℕ) (v : List ℕ) → length v ≡ 16
+    → mask_l (map (top 7) (zip2 (λ a b. cond (leb a b) 255 0) (replicate 16 low) v)) % 2 ^ 64 ≡ mask_l (map (leb low) v)
+low_mask low v long =
+    ap (λ ms. mask_l ms % 2 ^ 64) (tops_compared w8 leb (replicate 16 low) v ∙ ap (λ m. zip2 leb (replicate m low) v) (sym long) ∙ splat_zip2 leb low v)
+    ∙ mask_l-mod (map (leb low) v) 64 (omega (arith, length-map v (leb low)))
+
+both_bits : (a b k : ℕ) (x y : Bool) → bit_at a k ≡ cond x 1 0 → bit_at b k ≡ cond y 1 0 → bit_at (bit_and a b) k ≡ cond (x && y) 1 0
+both_bits a b k true true e f = omega (arith, bit_at_and a b k)
+both_bits a b k true false e f = omega (arith, bit_at_and a b k)
+both_bits a b k false y e f = omega (arith, bit_at_and a b k)
+
+either_bits : (a b k : ℕ) (x y : Bool) → bit_at a k ≡ cond x 1 0 → bit_at b k ≡ cond y 1 0 → bit_at (bit_or a b) k ≡ cond (x || y) 1 0
+either_bits a b k true y e f = omega (arith, bit_at_or a b k, bit_at-lt b k)
+either_bits a b k false true e f = omega (arith, bit_at_or a b k)
+either_bits a b k false false e f = omega (arith, bit_at_or a b k)
+
+no_bit : (n k : ℕ) (x : Bool) → n < 2 ^ 64 → k < 64 → bit_at n k ≡ cond x 1 0 → bit_at (bit_not w64 n) k ≡ cond x 0 1
+no_bit n k true small lt e = omega (arith, bit_at_not w64 n k small lt)
+no_bit n k false small lt e = omega (arith, bit_at_not w64 n k small lt)
+
+pub between_bits : (low high : ℕ) (v : List ℕ) (k : ℕ) → length v ≡ 16 → k < 16
+    → bit_at (bit_and (mask_l (map (leb low) v)) (mask_l (map (λ x. leb x high) v))) k ≡ cond (leb low (get_or v k 0) && leb (get_or v k 0) high) 1 0
+between_bits low high v k long lt =
+    both_bits (mask_l (map (leb low) v)) (mask_l (map (λ x. leb x high) v)) k (leb low (get_or v k 0)) (leb (get_or v k 0) high)
+    (lane_bit (leb low) v k (omega arith)) (lane_bit (λ x. leb x high) v k (omega arith))
+
+pub between_of : (low high : ℕ) (v : List ℕ) (a b k : ℕ) → a ≡ mask_l (map (leb low) v) → b ≡ mask_l (map (λ x. leb x high) v) → length v ≡ 16 → k < 16
+    → bit_at (bit_and a b) k ≡ cond (leb low (get_or v k 0) && leb (get_or v k 0) high) 1 0
+between_of low high v a b k e f long lt =
+    ap (λ (m : ℕ). bit_at (bit_and m b) k) e ∙ ap (λ (m : ℕ). bit_at (bit_and (mask_l (map (leb low) v)) m) k) f ∙ between_bits low high v k long lt
+
+-- a byte between two
+abbrev between : ℕ → ℕ → ℕ → Bool
+between low high x = leb low x && leb x high
+
+-- the bytes that names go on with, by ranges
+abbrev named : ℕ → Bool
+named x = between 97 122 x || between 65 90 x || between 48 57 x || between 95 95 x || between 36 36 x || between 128 255 x
+
+named_all : agree_below named is_name_byte 256 ≡ true
+unfolding is_name_byte is_name_start
+named_all = refl
+
+named_byte : (x : ℕ) → x < 256 → named x ≡ is_name_byte x
+named_byte x lt = agree_below_at named is_name_byte 256 x named_all lt
+
+pub end_of_name : (x a b c d e f k : ℕ) → x < 256 → k < 64 → bit_or (bit_or (bit_or (bit_or (bit_or a b) c) d) e) f < 2 ^ 64
+    → bit_at a k ≡ cond (between 97 122 x) 1 0 → bit_at b k ≡ cond (between 65 90 x) 1 0 → bit_at c k ≡ cond (between 48 57 x) 1 0
+    → bit_at d k ≡ cond (between 95 95 x) 1 0 → bit_at e k ≡ cond (between 36 36 x) 1 0 → bit_at f k ≡ cond (between 128 255 x) 1 0
+    → bit_at (bit_not w64 (bit_or (bit_or (bit_or (bit_or (bit_or a b) c) d) e) f)) k ≡ cond (is_name_byte x) 0 1
+end_of_name x a b c d e f k byte lt small ha hb hc hd he hf =
+    let ab = either_bits a b k (between 97 122 x) (between 65 90 x) ha hb in
+    let abc = either_bits (bit_or a b) c k (between 97 122 x || between 65 90 x) (between 48 57 x) ab hc in
+    let abcd = either_bits (bit_or (bit_or a b) c) d k (between 97 122 x || between 65 90 x || between 48 57 x) (between 95 95 x) abc hd in
+    let five = either_bits (bit_or (bit_or (bit_or a b) c) d) e k (between 97 122 x || between 65 90 x || between 48 57 x || between 95 95 x) (between 36 36 x) abcd he in
+    let all = either_bits (bit_or (bit_or (bit_or (bit_or a b) c) d) e) f k (between 97 122 x || between 65 90 x || between 48 57 x || between 95 95 x || between 36 36 x) (between 128 255 x) five hf in
+    no_bit (bit_or (bit_or (bit_or (bit_or (bit_or a b) c) d) e) f) k (named x) small lt all ∙ ap (λ t. cond {A = ℕ} t 0 1) (named_byte x byte)
+
+pub end_bit : (t : Bool) (n : ℕ) → n ≡ cond t 0 1 → (n ≡ 0 → t ≡ true) × (n ≡ 1 → t ≡ false)
+end_bit true n e = (λ h. refl, λ h. absurd (omega arith))
+end_bit false n e = (λ h. absurd (omega arith), λ h. refl)

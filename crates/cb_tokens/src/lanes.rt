@@ -1,6 +1,7 @@
 //! Bytes looked at 32 at a time.
-ghost use Rattle.std.specs.Prelude.{ℕ, ◌≡◌, ◌≢◌, ◌↔◌, ◌+◌, ◌<◌, ◌≤◌, true, false, length, slice_index};
+ghost use Rattle.std.specs.Prelude.{ℕ, ◌≡◌, ◌≢◌, ◌↔◌, ◌+◌, ◌<◌, ◌≤◌, ◌&&◌, nat_le, if◌then◌else◌, true, false, length, slice_index};
 ghost use Rattle.std.specs.Int.{bit_at};
+ghost use Rattle.cb_tokens.specs.Forms.{is_name_byte};
 ghost use Rattle.cb_tokens.specs.Plain.{is_quiet};
 ghost use Rattle.cb_tokens.specs.Scan.{is_inner, ends_with};
 
@@ -149,4 +150,61 @@ pub(crate) fn endless_to(bytes: &[u8], from: usize) -> usize
         at += LANES;
     }
     at
+}
+
+/// A bit for each lane, set where a byte between these two stands there.
+#[inline(always)]
+fn bits_between(bytes: u8x16, low: u8, high: u8) -> u64
+    ensures { (k : ℕ) → k < 16 → bit_at result k ≡ (if nat_le low (slice_index bytes k) && nat_le (slice_index bytes k) high then 1 else 0) }
+{
+    bytes.simd_ge(u8x16::splat(low)).to_bitmask() & bytes.simd_le(u8x16::splat(high)).to_bitmask()
+}
+
+/// The place of the lowest bit of 16 that is set; 16 where there is none.
+#[inline(always)]
+fn lowest_of_16(bits: u64) -> usize
+    ensures few { result ≤ 16 }
+    ensures set { result < 16 → bit_at bits result ≡ 1 }
+    ensures below { (k : ℕ) → k < result → bit_at bits k ≡ 0 }
+{
+    if bits == 0 {
+        return 16;
+    }
+    lowest(bits).min(16)
+}
+
+/// The 16 bytes from a place.
+#[inline(always)]
+fn load_16(bytes: &[u8], at: usize) -> u8x16
+    requires { at + 16 ≤ length bytes.now }
+    ensures lanes { length result ≡ 16 }
+    ensures each { (k : ℕ) → k < 16 → slice_index result k ≡ slice_index bytes.now (at + k) }
+{
+    u8x16::from_slice(&bytes[at..])
+}
+
+/// A bit for each of the 16 bytes from a place, set where no identifier goes on with the byte.
+#[inline(always)]
+fn end_of_name_bits(bytes: &[u8], at: usize) -> u64
+    requires { at + 16 ≤ length bytes.now }
+    ensures { (k : ℕ) → k < 16 → bit_at result k ≡ (if is_name_byte (slice_index bytes.now (at + k)) then 0 else 1) }
+{
+    let ahead = load_16(bytes, at);
+    !(bits_between(ahead, b'a', b'z')
+        | bits_between(ahead, b'A', b'Z')
+        | bits_between(ahead, b'0', b'9')
+        | bits_between(ahead, b'_', b'_')
+        | bits_between(ahead, b'$', b'$')
+        | bits_between(ahead, 128, 255))
+}
+
+/// The number of the 16 bytes from a place that an identifier goes on with before the first one that it does not.
+#[inline(always)]
+pub(crate) fn name_len_of_16(bytes: &[u8], at: usize) -> usize
+    requires { at + 16 ≤ length bytes.now }
+    ensures few { result ≤ 16 }
+    ensures names { (k : ℕ) → k < result → is_name_byte (slice_index bytes.now (at + k)) ≡ true }
+    ensures stops { result < 16 → is_name_byte (slice_index bytes.now (at + result)) ≡ false }
+{
+    lowest_of_16(end_of_name_bits(bytes, at))
 }

@@ -1,8 +1,9 @@
 //! Runs of bytes that are each of one kind.
-ghost use Rattle.std.specs.Prelude.{◌≡◌, ◌≤◌, not, length, drop, slice_index};
+ghost use Rattle.std.specs.Prelude.{ℕ, ◌≡◌, ◌<◌, ◌≤◌, true, false, not, length, drop, slice_index};
 ghost use Rattle.std.specs.List.{prefix_len};
 ghost use Rattle.cb_tokens.specs.Forms.{is_white, is_name_byte, is_line_feed};
 
+use crate::lanes::name_len_of_16;
 use crate::table::{is_name_byte, is_white};
 use memchr::memchr;
 
@@ -43,7 +44,32 @@ pub(crate) fn white_len(bytes: &[u8]) -> usize
 pub(crate) fn name_len(bytes: &[u8]) -> usize
     ensures { result ≡ prefix_len is_name_byte bytes.now }
 {
-    bytes.iter().take_while(|b| is_name_byte(**b)).count()
+    let mut at = 0;
+    'lanes: while bytes.len() - at >= 16 {
+        let len = name_len_of_16(bytes, at);
+        if len < 16 {
+            return at + len;
+        }
+        at += 16;
+    }
+    name_end(bytes, at)
+}
+
+/// The first place from one on that no identifier goes on with, a byte at a time.
+fn name_end(bytes: &[u8], from: usize) -> usize
+    requires { from ≤ length bytes.now }
+    ensures within { (from ≤ result) × (result ≤ length bytes.now) }
+    ensures names { (k : ℕ) → from ≤ k → k < result → is_name_byte (slice_index bytes.now k) ≡ true }
+    ensures stops { result < length bytes.now → is_name_byte (slice_index bytes.now result) ≡ false }
+{
+    let mut at = from;
+    'bytes: while at < bytes.len() {
+        if !is_name_byte(bytes[at]) {
+            return at;
+        }
+        at += 1;
+    }
+    at
 }
 
 /// The number of bytes that are left of the line.
