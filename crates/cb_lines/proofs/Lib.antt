@@ -1,5 +1,6 @@
 pub mod Adding
 pub mod AtEnd
+pub mod Candidates
 pub mod Counting
 pub mod Holding
 pub mod Joining
@@ -9,4 +10,5 @@ pub mod Merged
 pub mod Positions
 pub mod Singles
 pub mod SpanLists
+pub mod Vectors
 pub mod Written

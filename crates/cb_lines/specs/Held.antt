@@ -7,6 +7,10 @@ use Rattle.cb_lines.specs.Marks.{is_line_feed}
 abbrev pub is_special : ℕ → Bool
 is_special byte = (byte == 92) || (byte == 13)
 
+-- a byte at which a line end may begin (own)
+abbrev pub is_ending : ℕ → Bool
+is_ending byte = (byte == 10) || (byte == 13)
+
 -- how many splices stand at a mark or before it (own)
 abbrev pub passed : ℕ → List ℕ → ℕ
 passed at [] = 0

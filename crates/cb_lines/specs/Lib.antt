@@ -1,4 +1,5 @@
 pub mod Held
+pub mod Lanes
 pub mod Marks
 pub mod Lines
 pub mod Merging

@@ -1,6 +1,7 @@
 //! The marks of a source, and sets of line numbers.
 #![tactic(auto)]
 
+mod lanes;
 mod laws;
 mod line_set;
 mod mark;

@@ -141,4 +141,19 @@ mod tests {
         assert_eq!(rt; walk.line(), 3);
         Ok(())
     }
+
+    #[test]
+    fn backslashes_before_far_splices_are_kept(rt: HostRuntime) -> Result<(), Fail> {
+        let source =
+            b"\\t\\t\\t\\t\\t\\t\\t\\t\\t\\t\\t\\t\\t\\t\\t\\t\\t\\t\\t\\t\\t\\t\\t\\t\\\r\n\\t\\\ne".as_slice();
+        let marks = marks(rt.alloc(), source)?;
+        let mut walk = Walk::new(&marks);
+        assert_eq!(rt; walk.row().len(), 48);
+        walk.pass(48);
+        assert_eq!(rt; walk.row(), b"\\t".as_slice());
+        walk.pass(2);
+        assert_eq!(rt; walk.rest(), b"e".as_slice());
+        assert_eq!(rt; walk.line(), 3);
+        Ok(())
+    }
 }

@@ -1,8 +1,9 @@
 //! From a source to its marks.
-ghost use Rattle.std.specs.Prelude.{◌≡◌, ◌<◌, ◌≤◌, ◌+◌, ◌-◌, ◌^◌, ℕ, true, false, min, if◌then◌else◌, length, IfOk};
+ghost use Rattle.std.specs.Prelude.{◌≡◌, ◌||◌, ◌<◌, ◌≤◌, ◌+◌, ◌-◌, ◌^◌, ℕ, true, false, min, if◌then◌else◌, length, IfOk};
 ghost use Rattle.cb_lines.specs.Held.{is_special};
 ghost use Rattle.cb_lines.specs.Marks.{marks_of, byte_at, begins_line_end, is_line_return, is_splice, is_deleted, is_line_feed};
 
+use crate::lanes::{LANES, candidates, lowest};
 use crate::mark::Marks;
 use cb_paths::NoMemory;
 use memchr::memchr2;
@@ -12,9 +13,11 @@ use std::borrow::CowSlice;
 /// The byte that ends a line.
 pub(crate) const LINE_FEED: u8 = b'\n';
 
-const CARRIAGE_RETURN: u8 = b'\r';
+/// The byte that may stand before it.
+pub(crate) const CARRIAGE_RETURN: u8 = b'\r';
 
-const BACKSLASH: u8 = b'\\';
+/// The byte that takes a line end away with it.
+pub(crate) const BACKSLASH: u8 = b'\\';
 
 /// The byte at a position, and 0 past the end.
 fn byte_of(source: &[u8], at: usize) -> u8
@@ -83,24 +86,46 @@ fn special_from(source: &[u8], from: usize) -> usize
     }
 }
 
+/// Whether the CR of a line end or a backslash before a line end stands at a position.
+fn is_cut(source: &[u8], at: usize) -> bool
+    requires { at < length source.now }
+    ensures { result ≡ (is_line_return source.now at || is_splice source.now at) }
+{
+    is_return_of_line_end(source, at) || is_spliced_backslash(source, at)
+}
+
+/// A position from one on, before which no CR of a line end and no backslash before a line end stands from there on; the length
+/// only where there is none. A source full of backslashes takes no more time than another one.
+fn candidate_from(source: &[u8], from: usize) -> usize
+    requires { from ≤ length source.now }
+    ensures within { (from ≤ result) × (result ≤ length source.now) }
+    ensures stays { (k : ℕ) → from ≤ k → k < result → (is_line_return source.now k ≡ false) × (is_splice source.now k ≡ false) }
+{
+    let mut at = from;
+    'vectors: while source.len() - at > LANES {
+        let marked = candidates(source, at);
+        if marked != 0 {
+            return at + lowest(marked);
+        }
+        at += LANES;
+    }
+    special_from(source, at)
+}
+
 /// The first position from one on at which the CR of a line end or a backslash before a line end stands; the length where there is
-/// none.
+/// none. The first CR or backslash is sought alone, since most sources have few of them.
 fn cut_from(source: &[u8], from: usize) -> usize
     requires { from ≤ length source.now }
     ensures within { (from ≤ result) × (result ≤ length source.now) }
     ensures stays { (k : ℕ) → from ≤ k → k < result → (is_line_return source.now k ≡ false) × (is_splice source.now k ≡ false) }
     ensures cut { result < length source.now → is_line_return source.now result ≡ false → is_splice source.now result ≡ true }
 {
-    let mut at = from;
-    'specials: while at < source.len() {
-        at = special_from(source, at);
-        if at == source.len()
-            || is_return_of_line_end(source, at)
-            || is_spliced_backslash(source, at)
-        {
+    let mut at = special_from(source, from);
+    'candidates: while at < source.len() {
+        if is_cut(source, at) {
             return at;
         }
-        at += 1;
+        at = candidate_from(source, at + 1);
     }
     at
 }
