@@ -1,8 +1,10 @@
 pub mod AnswerParts
 pub mod CommandWords
+pub mod FullSpans
 pub mod NamesHeld
 pub mod NotYetSteps
 pub mod Numbers
+pub mod NumberSteps
 pub mod NumberTexts
 pub mod OneSaying
 pub mod PassSteps

@@ -6,6 +6,7 @@ mod defined;
 mod early;
 mod laws;
 mod names;
+mod number_line;
 mod pass;
 mod reached;
 mod running;

@@ -1,9 +1,10 @@
 //! The texts that a run writes.
-ghost use Rattle.std.specs.Prelude.{◌≡◌, ℕ, [], ◌∷◌, ◌++◌, codes, decimal, OnOk, IfOk};
+ghost use Rattle.std.specs.Prelude.{◌≡◌, ◌≤◌, ℕ, [], ◌∷◌, ◌++◌, codes, decimal, OnOk, IfOk};
 ghost use Rattle.std.specs.List.{flat_map};
 ghost use Rattle.cb_lines.specs.Lines.{span_lines};
 ghost use Rattle.codebasin.specs.Texts.{fault_number, fault_name, fault_text, not_yet_text, numbers_text, line_text};
 
+use crate::number_line::NumberLine;
 use cb_lines::{Lines, Span};
 use cb_paths::NoMemory;
 use cb_tree::{BadSource, SourceKind};
@@ -51,19 +52,12 @@ fn fault_name(kind: SourceKind) -> &'static str
     }
 }
 
-/// Adds a number in decimal digits, which are first made in the buffer.
-fn push_digits(text: &mut Vec<u8>, buffer: &mut Buffer, number: u32) -> Result<(), NoMemory>
-    ensures { OnOk result (text.new.items ≡ text.old.items ++ decimal number) }
-{
-    text.extend_from_slice(buffer.format(number).as_bytes())?;
-    Ok(())
-}
-
 /// Adds a number in decimal digits.
 fn push_number(text: &mut Vec<u8>, number: u32) -> Result<(), NoMemory>
     ensures { OnOk result (text.new.items ≡ text.old.items ++ decimal number) }
 {
-    push_digits(text, &mut Buffer::new(), number)
+    text.extend_from_slice(Buffer::new().format(number).as_bytes())?;
+    Ok(())
 }
 
 /// What is written where the input is no sound source.
@@ -90,21 +84,16 @@ pub(crate) fn not_yet_text(alloc: Global, line: u32) -> Result<Vec<u8>, NoMemory
     Ok(text)
 }
 
-/// Adds a number on a line of its own.
-fn push_line(text: &mut Vec<u8>, buffer: &mut Buffer, number: u32) -> Result<(), NoMemory>
-    ensures { OnOk result (text.new.items ≡ text.old.items ++ line_text (decimal number)) }
-{
-    push_digits(text, buffer, number)?;
-    text.push(b'\n')?;
-    Ok(())
-}
-
 /// Adds the numbers of a span, each on a line of its own.
-fn push_span(text: &mut Vec<u8>, buffer: &mut Buffer, span: Span) -> Result<(), NoMemory>
+fn push_span(text: &mut Vec<u8>, span: Span) -> Result<(), NoMemory>
+    requires { span.first ≤ span.last }
     ensures { OnOk result (text.new.items ≡ text.old.items ++ numbers_text (span_lines span)) }
 {
-    for line in u64::from(span.first)..u64::from(span.last) + 1 {
-        push_line(text, buffer, line as u32)?;
+    let mut line = NumberLine::new(span.first);
+    line.add_to(text, span.first)?;
+    for number in span.first..span.last {
+        line.go_on(number);
+        line.add_to(text, number + 1)?;
     }
     Ok(())
 }
@@ -115,9 +104,8 @@ pub(crate) fn numbers_text(alloc: Global, lines: &Lines) -> Result<Vec<u8>, NoMe
     ensures { IfOk result (λ text. text.items ≡ numbers_text lines.now) }
 {
     let mut text = Vec::new(alloc);
-    let mut buffer = Buffer::new();
     for span in lines.spans() {
-        push_span(&mut text, &mut buffer, *span)?;
+        push_span(&mut text, *span)?;
     }
     Ok(text)
 }
