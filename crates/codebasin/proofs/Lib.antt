@@ -1,6 +1,5 @@
 pub mod AnswerParts
 pub mod CommandWords
-pub mod FullSpans
 pub mod NamesHeld
 pub mod NotYetSteps
 pub mod Numbers

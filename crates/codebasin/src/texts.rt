@@ -1,5 +1,5 @@
 //! The texts that a run writes.
-ghost use Rattle.std.specs.Prelude.{◌≡◌, ◌≤◌, ℕ, [], ◌∷◌, ◌++◌, codes, decimal, OnOk, IfOk};
+ghost use Rattle.std.specs.Prelude.{◌≡◌, ℕ, [], ◌∷◌, ◌++◌, codes, decimal, OnOk, IfOk};
 ghost use Rattle.std.specs.List.{flat_map};
 ghost use Rattle.cb_lines.specs.Lines.{span_lines};
 ghost use Rattle.codebasin.specs.Texts.{fault_number, fault_name, fault_text, not_yet_text, numbers_text, line_text};
@@ -86,14 +86,12 @@ pub(crate) fn not_yet_text(alloc: Global, line: u32) -> Result<Vec<u8>, NoMemory
 
 /// Adds the numbers of a span, each on a line of its own.
 fn push_span(text: &mut Vec<u8>, span: Span) -> Result<(), NoMemory>
-    requires { span.first ≤ span.last }
     ensures { OnOk result (text.new.items ≡ text.old.items ++ numbers_text (span_lines span)) }
 {
-    let mut line = NumberLine::new(span.first);
-    line.add_to(text, span.first)?;
-    for number in span.first..span.last {
-        line.go_on(number);
-        line.add_to(text, number + 1)?;
+    let mut last = NumberLine::new(span.first);
+    for line in u64::from(span.first)..u64::from(span.last) + 1 {
+        last.go_on(line as u32);
+        last.add_to(text, line as u32)?;
     }
     Ok(())
 }

@@ -4,26 +4,14 @@ use Rattle.codebasin.specs.Texts.{numbers_text}
 use Rattle.codebasin.proofs.NumberTexts.{numbers_text_more}
 use Rattle.codebasin.proofs.texts.push_span.Goals as goal
 
-pub loop-number-init : goal.loop-number-init
-loop-number-init c =
-    let first = c.args.span.first in
-    let end = c.args.span.last + 1 in
+pub loop-line-preserved : goal.loop-line-preserved
+loop-line-preserved c =
+    let line = c.loop-line.line in
+    let end = c.from-line-end.result + 1 in
     record {
-      within = c.requires;
-      holds = c.new-line.ensures;
+      holds = c.go_on.ensures.holds;
+      rises = omega arith;
       text =
-          ap (λ text. text ++ numbers_text (range_with_len (first + 1) (end - (first + 1)))) c.in_ok-add_to.ensures
-          ∙ numbers_text_more c.args.text.now.items first end (omega arith);
-    }
-
-pub loop-number-preserved : goal.loop-number-preserved
-loop-number-preserved c =
-    let next = c.loop-number.number + 1 in
-    let end = c.args.span.last + 1 in
-    record {
-      within = omega arith;
-      holds = c.go_on.ensures;
-      text =
-          ap (λ text. text ++ numbers_text (range_with_len (next + 1) (end - (next + 1)))) c.in_ok-add_to-2.ensures
-          ∙ (numbers_text_more c.loop-number.text.items next end (omega arith) ∙ c.loop-number.invariant.text);
+          ap (λ text. text ++ numbers_text (range_with_len (line + 1) (end - (line + 1)))) c.in_ok-add_to.ensures
+          ∙ (numbers_text_more c.loop-line.text.items line end c.loop-line-test.true ∙ c.loop-line.invariant.text);
     }
