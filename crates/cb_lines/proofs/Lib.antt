@@ -10,5 +10,6 @@ pub mod Merged
 pub mod Positions
 pub mod Singles
 pub mod SpanLists
+pub mod Stretching
 pub mod Vectors
 pub mod Written

@@ -6,7 +6,7 @@ ghost use Rattle.std.specs.List.Sorted.{IsStrictlyIncreasing};
 
 use crate::merging::merged;
 use crate::runs::Runs;
-use crate::spans::{add_line, begins_by, count_before, count_lines};
+use crate::spans::{add_line, add_span, begins_by, count_before, count_lines};
 use cb_paths::NoMemory;
 use std::alloc::Global;
 use std::marker::Model;
@@ -70,6 +70,15 @@ impl Lines {
         ensures { OnOk result (self.new ≡ with_line line self.old) }
     {
         add_line(&mut self.spans, line)
+    }
+
+    /// Adds the lines of a span, at once where the span begins on the last run or behind all others. Its one error is want of
+    /// memory, after which the set may be used on, and no more is said of it.
+    #[inline]
+    pub fn add_span(&mut self, span: Span) -> Result<(), NoMemory>
+        ensures { OnOk result (self.new ≡ union_of (span_lines span) self.old) }
+    {
+        add_span(&mut self.spans, span)
     }
 
     /// Whether the set holds a line. The search is binary.
@@ -146,6 +155,22 @@ mod tests {
             }
             assert_eq!(rt; lines.copy(rt.alloc())?.spans(), spans, "after {added:?}");
         }
+        Ok(())
+    }
+
+    #[test]
+    fn spans_are_added_at_once_or_line_by_line(rt: HostRuntime) -> Result<(), Fail> {
+        let mut lines = Lines::new(rt.alloc());
+        for added in [
+            span(7, 9),
+            span(9, 12),
+            span(2, 8),
+            span(20, 20),
+            span(5, 4),
+        ] {
+            lines.add_span(added)?;
+        }
+        assert_eq!(rt; lines.spans(), [span(2, 12), span(20, 20)].as_slice());
         Ok(())
     }
 

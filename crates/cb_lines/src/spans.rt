@@ -1,8 +1,8 @@
 //! Maximal runs of consecutive lines, rising.
 ghost use Rattle.std.specs.Prelude.{◌≡◌, ◌+◌, ◌-◌, ◌<◌, ◌≤◌, ◌↔◌, ◌++◌, ◌∷◌, [], ℕ, false, length, slice_index_or, OnOk, IsTrue};
 ghost use Rattle.cb_lines.specs.declared.line_set.Span.{Span};
-ghost use Rattle.cb_lines.specs.Lines.{with_line, span_lines, AreMaximal};
-ghost use Rattle.std.specs.List.{flat_map};
+ghost use Rattle.cb_lines.specs.Lines.{with_line, union_of, span_lines, AreMaximal};
+ghost use Rattle.std.specs.List.{flat_map, range_with_len};
 
 use crate::line_set::Span;
 use crate::runs::Runs;
@@ -94,6 +94,61 @@ pub(crate) fn add_line(spans: &mut Runs, line: u32) -> Result<(), NoMemory>
         return Ok(());
     }
     add_apart(spans, line)
+}
+
+/// Lengthens the last of the spans to a line, where it ends with a line no later than that, and tells whether it did.
+#[inline]
+fn lengthen_from(spans: &mut Runs, from: u32, line: u32) -> bool
+    requires maximal { AreMaximal spans.old }
+    requires rising { from ≤ line }
+    ensures maximal { AreMaximal spans.new }
+    ensures numbers { IsTrue result → flat_map span_lines spans.new ≡ union_of (range_with_len (from + 1) (line - from)) (flat_map span_lines spans.old) }
+    ensures kept { result ≡ false → spans.new ≡ spans.old }
+{
+    let held = spans.as_slice();
+    let count = held.len();
+    if count == 0 {
+        return false;
+    }
+    let Span { first, last } = held[count - 1];
+    if last != from {
+        return false;
+    }
+    spans.set(count - 1, Span { first, last: line });
+    true
+}
+
+/// Adds the lines behind one up to another to maximal spans, line by line.
+#[inline(never)]
+#[tactic(auto, using(crate::proofs::Stretching::union_range))]
+fn add_lines(spans: &mut Runs, from: u32, line: u32) -> Result<(), NoMemory>
+    requires maximal { AreMaximal spans.old }
+    requires rising { from ≤ line }
+    ensures maximal { AreMaximal spans.new }
+    ensures numbers { OnOk result (flat_map span_lines spans.new ≡ union_of (range_with_len (from + 1) (line - from)) (flat_map span_lines spans.old)) }
+{
+    'lines: for next in u64::from(from) + 1..u64::from(line) + 1 {
+        add_line(spans, next as u32)?;
+    }
+    Ok(())
+}
+
+/// Adds the lines of a span to maximal spans, at once where no line behind its first one is held or passed.
+#[inline]
+pub(crate) fn add_span(spans: &mut Runs, span: Span) -> Result<(), NoMemory>
+    requires { AreMaximal spans.old }
+    ensures maximal { AreMaximal spans.new }
+    ensures numbers { OnOk result (flat_map span_lines spans.new ≡ union_of (span_lines span) (flat_map span_lines spans.old)) }
+{
+    let Span { first, last } = span;
+    if first > last {
+        return Ok(());
+    }
+    add_line(spans, first)?;
+    if lengthen_from(spans, first, last) {
+        return Ok(());
+    }
+    add_lines(spans, first, last)
 }
 
 /// Adds a line to maximal spans, the last of which does not reach it. It stays out of the way of the calls that lengthen that one.

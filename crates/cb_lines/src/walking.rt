@@ -136,6 +136,25 @@ impl<'a> Walk<'a> {
         ensures passed { OnOk result (self.new ≡ drop count self.old) }
         ensures counted { OnOk result (lines.new ≡ with_lines (take count self.old) lines.old) }
     {
+        if count == 0 {
+            return Ok(());
+        }
+        if self.plain_row_len(count) < count {
+            return self.pass_parts_counted(count, lines);
+        }
+        lines.add(self.line())?;
+        self.pass_row(count);
+        Ok(())
+    }
+
+    /// The same, where splices may stand among the marks. It stays out of the way of the calls that pass none.
+    #[inline(never)]
+    fn pass_parts_counted(&mut self, count: usize, lines: &mut Lines) -> Result<(), NoMemory>
+        requires within { count ≤ length self.old }
+        requires plain { (k : ℕ) → k + 1 < count → is_line_feed (slice_index (bytes_of self.old) k) ≡ false }
+        ensures passed { OnOk result (self.new ≡ drop count self.old) }
+        ensures counted { OnOk result (lines.new ≡ with_lines (take count self.old) lines.old) }
+    {
         let mut left = count;
         'parts: while left > 0 {
             let part = self.plain_row_len(left);

@@ -1,6 +1,6 @@
 use Rattle.std.proofs.Common.{◌≡◌, ◌-◌, ◌≤◌, take, drop}
 use Rattle.cb_lines.specs.Lines.{with_lines}
-use Rattle.cb_lines.proofs.walking.Walk.pass_row_counted.Given as goal
+use Rattle.cb_lines.proofs.walking.Walk.pass_parts_counted.Given as goal
 
 abbrev pub invariant-parts : goal.invariant-parts
 invariant-parts l = record {

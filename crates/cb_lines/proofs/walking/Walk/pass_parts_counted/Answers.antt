@@ -1,7 +1,7 @@
 use Rattle.std.proofs.Common.{◌≤◌, ℕ, sym, ap, ◌∙◌, arith}
 use Rattle.cb_lines.specs.Lines.{with_line}
 use Rattle.cb_lines.proofs.Counting.{row_more, drop_more_row, plain_left}
-use Rattle.cb_lines.proofs.walking.Walk.pass_row_counted.Goals as goal
+use Rattle.cb_lines.proofs.walking.Walk.pass_parts_counted.Goals as goal
 
 pub parts-preserved : goal.parts-preserved
 parts-preserved c =
