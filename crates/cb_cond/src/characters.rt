@@ -92,6 +92,7 @@ fn between_quotes(bytes: &[u8]) -> Symbol
 }
 
 /// What a character constant is to the grammar.
+#[inline(always)]
 #[tactic(auto, unfolding(crate::specs::Characters::character))]
 pub(crate) fn character_symbol(text: &[u8]) -> Symbol
     ensures { result ≡ character text.now }

@@ -163,6 +163,7 @@ fn digits_len(base: u64, text: &[u8]) -> usize
 }
 
 /// What a number is to the grammar.
+#[inline(always)]
 #[tactic(auto, unfolding(crate::specs::Integers::integer, crate::specs::Integers::behind_mark, crate::specs::Integers::mark_len))]
 pub(crate) fn integer_symbol(text: &[u8]) -> Symbol
     ensures { result ≡ integer text.now }

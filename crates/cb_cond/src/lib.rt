@@ -13,6 +13,7 @@ mod nesting;
 mod operations;
 mod prefixes;
 mod rest;
+mod singles;
 mod symbol;
 mod symbols;
 #[cfg(test)]

@@ -12,6 +12,7 @@ use cb_paths::Language;
 use cb_tokens::{Token, TokenKind};
 
 /// What a token is to the grammar.
+#[inline(always)]
 #[tactic(auto, unfolding(crate::specs::Symbols::symbol, crate::specs::Symbols::symbol_of))]
 pub(crate) fn token_symbol(language: Language, token: &Token) -> Symbol
     ensures { result ≡ symbol language token.now }

@@ -1,8 +1,9 @@
 //! Punctuators and words of conditions.
-ghost use Rattle.std.specs.Prelude.{◌≡◌};
+ghost use Rattle.std.specs.Prelude.{◌≡◌, ◌≢◌, length};
 ghost use Rattle.std.specs.Str.{bytes_eq};
 ghost use Rattle.cb_cond.specs.Words.{punctuator, identifier, word};
 
+use crate::singles::single_symbol;
 use crate::symbol::{Operator, Symbol};
 use cb_paths::Language;
 
@@ -13,38 +14,34 @@ fn is(text: &[u8], word: &[u8]) -> bool
     text == word
 }
 
-/// What a punctuator is to the grammar.
+/// What a punctuator of more bytes than one is to the grammar.
 #[tactic(auto, unfolding(crate::specs::Words::punctuator, crate::specs::Words::punctuators, crate::specs::Words::looked_up))]
-pub(crate) fn punctuator_symbol(text: &[u8]) -> Symbol
+fn longer_symbol(text: &[u8]) -> Symbol
+    requires { length text.now ≢ 1 }
     ensures { result ≡ punctuator text.now }
 {
     match text {
-        b"(" => Symbol::OpenParenthesis,
-        b")" => Symbol::CloseParenthesis,
-        b"?" => Symbol::Question,
-        b":" => Symbol::Colon,
-        b"!" => Symbol::Exclamation,
-        b"~" => Symbol::Tilde,
         b"||" => Symbol::Between(Operator::Or),
         b"&&" => Symbol::Between(Operator::And),
-        b"|" => Symbol::Between(Operator::BitOr),
-        b"^" => Symbol::Between(Operator::BitXor),
-        b"&" => Symbol::Between(Operator::BitAnd),
         b"==" => Symbol::Between(Operator::Equal),
         b"!=" => Symbol::Between(Operator::Unequal),
-        b"<" => Symbol::Between(Operator::Less),
-        b">" => Symbol::Between(Operator::Greater),
         b"<=" => Symbol::Between(Operator::AtMost),
         b">=" => Symbol::Between(Operator::AtLeast),
         b"<<" => Symbol::Between(Operator::ShiftLeft),
         b">>" => Symbol::Between(Operator::ShiftRight),
-        b"+" => Symbol::Between(Operator::Add),
-        b"-" => Symbol::Between(Operator::Subtract),
-        b"*" => Symbol::Between(Operator::Multiply),
-        b"/" => Symbol::Between(Operator::Divide),
-        b"%" => Symbol::Between(Operator::Remainder),
         _ => Symbol::Stray,
     }
+}
+
+/// What a punctuator is to the grammar.
+#[inline(always)]
+pub(crate) fn punctuator_symbol(text: &[u8]) -> Symbol
+    ensures { result ≡ punctuator text.now }
+{
+    if text.len() == 1 {
+        return single_symbol(text[0]);
+    }
+    longer_symbol(text)
 }
 
 /// What an identifier other than `defined` is to the grammar.
@@ -95,6 +92,7 @@ fn word_symbol(language: Language, text: &[u8]) -> Symbol
 }
 
 /// What an identifier is to the grammar: a `defined` that is left has no place in it.
+#[inline(always)]
 #[tactic(auto, unfolding(crate::specs::Words::identifier))]
 pub(crate) fn identifier_symbol(language: Language, text: &[u8]) -> Symbol
     ensures { result ≡ identifier language text.now }
