@@ -3,6 +3,7 @@ pub mod Reading
 pub mod Complete
 pub mod Sound
 pub mod Digits
+pub mod Leading
 pub mod Runs
 pub mod Closing
 pub mod Image

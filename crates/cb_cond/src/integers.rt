@@ -1,22 +1,42 @@
 //! Integer constants.
-ghost use Rattle.std.specs.Prelude.{◌≡◌, ℕ, ◌≤◌, ◌<◌, ◌^◌, ◌==◌, length, false, MatchOption, slice_index};
+ghost use Rattle.std.specs.Prelude.{◌≡◌, ℕ, ◌≤◌, ◌<◌, ◌^◌, ◌==◌, List, length, take, true, false, IfSome, MatchOption, slice_index};
 ghost use Rattle.std.specs.List.{prefix_len};
 ghost use Rattle.cb_cond.specs.Integers.{digit_value, is_digit, are_digits, next_amount, amount, signed_suffixes, unsigned_suffixes, is_among, base_of, mark_len, number, with_suffix, is_digit_byte, behind_mark, integer};
 
 use crate::symbol::Symbol;
 
+// The value of each byte as a digit, and 16 of a byte that is none. A look-up costs the same for each byte, where a test of ranges
+// is mispredicted.
+static DIGITS: [u8; 256] = [
+    16, 16, 16, 16, 16, 16, 16, 16, 16, 16, 16, 16, 16, 16, 16, 16, 16, 16, 16, 16, 16, 16, 16, 16,
+    16, 16, 16, 16, 16, 16, 16, 16, 16, 16, 16, 16, 16, 16, 16, 16, 16, 16, 16, 16, 16, 16, 16, 16,
+    0, 1, 2, 3, 4, 5, 6, 7, 8, 9, 16, 16, 16, 16, 16, 16, 16, 10, 11, 12, 13, 14, 15, 16, 16, 16,
+    16, 16, 16, 16, 16, 16, 16, 16, 16, 16, 16, 16, 16, 16, 16, 16, 16, 16, 16, 16, 16, 16, 16, 10,
+    11, 12, 13, 14, 15, 16, 16, 16, 16, 16, 16, 16, 16, 16, 16, 16, 16, 16, 16, 16, 16, 16, 16, 16,
+    16, 16, 16, 16, 16, 16, 16, 16, 16, 16, 16, 16, 16, 16, 16, 16, 16, 16, 16, 16, 16, 16, 16, 16,
+    16, 16, 16, 16, 16, 16, 16, 16, 16, 16, 16, 16, 16, 16, 16, 16, 16, 16, 16, 16, 16, 16, 16, 16,
+    16, 16, 16, 16, 16, 16, 16, 16, 16, 16, 16, 16, 16, 16, 16, 16, 16, 16, 16, 16, 16, 16, 16, 16,
+    16, 16, 16, 16, 16, 16, 16, 16, 16, 16, 16, 16, 16, 16, 16, 16, 16, 16, 16, 16, 16, 16, 16, 16,
+    16, 16, 16, 16, 16, 16, 16, 16, 16, 16, 16, 16, 16, 16, 16, 16, 16, 16, 16, 16, 16, 16, 16, 16,
+    16, 16, 16, 16, 16, 16, 16, 16, 16, 16, 16, 16, 16, 16,
+];
+
+/// The value of a digit in a byte, and 16 of another byte.
+#[inline(always)]
+fn digit(byte: u8) -> u8
+    ensures value { result ≡ digit_value byte }
+    ensures small { result ≤ 16 }
+{
+    DIGITS[byte as usize]
+}
+
 /// The value of a digit, and 16 of another byte.
-#[tactic(auto, unfolding(crate::specs::Integers::digit_value))]
+#[inline(always)]
 fn value_of_digit(byte: u8) -> u64
     ensures value { result ≡ digit_value byte }
     ensures small { result ≤ 16 }
 {
-    match byte {
-        b'0'..=b'9' => u64::from(byte - b'0'),
-        b'a'..=b'f' => u64::from(byte - b'a') + 10,
-        b'A'..=b'F' => u64::from(byte - b'A') + 10,
-        _ => 16,
-    }
+    u64::from(digit(byte))
 }
 
 /// Whether the byte is a digit of the base.
@@ -104,6 +124,7 @@ fn is_unsigned_suffix(text: &[u8]) -> bool
 fn base(text: &[u8]) -> u64
     ensures value { result ≡ base_of text.now }
     ensures some { 1 ≤ result }
+    ensures hexadecimal { result ≤ 16 }
     ensures marked { (mark_len result ≡ 2) → 2 ≤ length text.now }
 {
     if text.len() == 0 || text[0] != b'0' {
@@ -162,6 +183,76 @@ fn digits_len(base: u64, text: &[u8]) -> usize
         .count()
 }
 
+/// How many digits a text begins with, and their number, or nothing where it is 2^64 or more.
+#[inline(always)]
+fn leading_number(base: u64, text: &[u8]) -> Option<(usize, u64)>
+    requires { base ≤ 16 }
+    ensures len { IfSome result (λ number. number.0 ≡ prefix_len (is_digit base) text.now) }
+    ensures value { IfSome result (λ number. number.1 ≡ amount base (take number.0 text.now)) }
+    ensures within { IfSome result (λ number. number.0 ≤ length text.now) }
+{
+    let mut sum: u64 = 0;
+    let mut len = 0;
+    'digits: while len < text.len() {
+        let digit = value_of_digit(text[len]);
+        if digit >= base {
+            return Some((len, sum));
+        }
+        sum = sum.checked_mul(base)?.checked_add(digit)?;
+        len += 1;
+    }
+    Some((len, sum))
+}
+
+/// The symbol of a number, by its suffix.
+#[inline(always)]
+#[tactic(auto, unfolding(crate::specs::Integers::with_suffix))]
+fn ended(bits: u64, suffix: &[u8]) -> Symbol
+    ensures { (base : ℕ) (digits : List ℕ) → are_digits base false digits ≡ true → bits ≡ amount base digits → result ≡ with_suffix base digits suffix.now }
+{
+    if is_signed_suffix(suffix) {
+        return number_symbol(Some(bits), false);
+    }
+    if is_unsigned_suffix(suffix) {
+        return number_symbol(Some(bits), true);
+    }
+    Symbol::Stray
+}
+
+/// What stands behind the mark of an integer, whatever it is.
+#[inline(never)]
+#[tactic(auto, unfolding(crate::specs::Integers::behind_mark))]
+fn general(base: u64, text: &[u8]) -> Symbol
+    requires { 1 ≤ base }
+    ensures { result ≡ behind_mark base text.now }
+{
+    let (digits, suffix) = text.split_at(digits_len(base, text));
+    suffixed(base, digits, suffix)
+}
+
+/// Whether a `'` stands there.
+#[inline(always)]
+fn is_quote_at(text: &[u8], place: usize) -> bool
+    ensures { result ≡ (slice_index text.now place == 39) }
+{
+    place < text.len() && text[place] == b'\''
+}
+
+/// What stands behind the mark of an integer: mostly a few digits without a `'`, which are gone over once.
+#[inline(always)]
+fn unmarked(base: u64, text: &[u8]) -> Symbol
+    requires some { 1 ≤ base }
+    requires hexadecimal { base ≤ 16 }
+    ensures { result ≡ behind_mark base text.now }
+{
+    if let Some((len, bits)) = leading_number(base, text) {
+        if len > 0 && !is_quote_at(text, len) {
+            return ended(bits, &text[len..]);
+        }
+    }
+    general(base, text)
+}
+
 /// What a number is to the grammar.
 #[inline(always)]
 #[tactic(auto, unfolding(crate::specs::Integers::integer, crate::specs::Integers::behind_mark, crate::specs::Integers::mark_len))]
@@ -174,6 +265,5 @@ pub(crate) fn integer_symbol(text: &[u8]) -> Symbol
     } else {
         text
     };
-    let (digits, suffix) = text.split_at(digits_len(base, text));
-    suffixed(base, digits, suffix)
+    unmarked(base, text)
 }
