@@ -108,10 +108,14 @@ unfoldable pub step : List Frame → Held → Symbol → Option Read
 step fs (Awaits run) s = awaiting fs run s
 step fs (Has a) s = holding fs a s
 
+-- what stands at the end of what was read up to a position
+unfoldable pub held_of : Position → Held
+held_of p = if p.awaits then Awaits p.run else Has p.operand
+
 -- what was read up to a position
 unfoldable pub read_of : List Frame → Option Position → Option Read
 read_of fs None = None
-read_of fs (Some p) = Some (record { frames = drop p.top fs; held = p.held })
+read_of fs (Some p) = Some (record { frames = drop p.top fs; held = held_of p })
 
 -- the end: no frame may be left
 unfoldable pub alone : List Frame → Meaning → Option Meaning

@@ -4,7 +4,7 @@ ghost use Rattle.cb_cond.specs.Parts.{left};
 ghost use Rattle.cb_cond.specs.Symbols.{symbols};
 ghost use Rattle.cb_cond.specs.Faults.{HasRoom, IsTooDeep, IsReadAs, IsAttempt};
 
-use crate::frames::{Frame, Held, Position, read_symbol, whole};
+use crate::frames::{Frame, Position, read_symbol, whole};
 use crate::meaning::Meaning;
 use crate::prefixes::Prefixes;
 use crate::rest::Rest;
@@ -24,10 +24,7 @@ pub(crate) enum Attempt {
 fn meaning_in(language: Language, mut rest: Rest, frames: &mut [Frame]) -> Attempt
     ensures { IsAttempt (symbols language (left rest.entry)) (length frames.old) result }
 {
-    let mut position = Position {
-        top: frames.len(),
-        held: Held::Awaits(Prefixes::NONE),
-    };
+    let mut position = Position::before(frames.len(), Prefixes::NONE);
     'tokens: while let Some(token) = rest.next() {
         if position.top == 0 {
             return Attempt::Crowded;

@@ -3,7 +3,7 @@
 //! What waits for its end lies in frames, the innermost first: from `top` on in a slice whose front is free.
 ghost use Rattle.std.specs.Prelude.{◌≡◌, ℕ, ◌<◌, ◌≤◌, ◌∷◌, length, drop, IfSome};
 ghost use Rattle.cb_cond.specs.Grammar.{level};
-ghost use Rattle.cb_cond.specs.Frames.{ends, joined, closed, prefix_of, awaiting, holding, step, read_of, whole_of};
+ghost use Rattle.cb_cond.specs.Frames.{ends, joined, closed, prefix_of, awaiting, holding, step, held_of, read_of, whole_of};
 
 use crate::meaning::{Meaning, Value};
 use crate::operations::{binary_meaning, choice_meaning};
@@ -32,13 +32,66 @@ pub(crate) enum Held {
     Has(Meaning),
 }
 
-/// How far a condition was read.
+/// How far a condition was read. The parts of both cases lie side by side, so that each has a place of its own.
 #[derive(Clone, Copy, Debug, PartialEq, Eq)]
 pub(crate) struct Position {
     /// Where the innermost frame lies.
     pub(crate) top: usize,
+    /// Whether an operand is to come.
+    awaits: bool,
+    /// The run of operators before the operand that is to come.
+    run: Prefixes,
+    /// The operand at the end, where none is to come.
+    operand: Meaning,
+}
+
+impl Position {
+    /// An operand is to come behind a run of operators.
+    #[inline(always)]
+    #[tactic(auto, unfolding(crate::specs::Frames::held_of))]
+    pub(crate) fn before(top: usize, run: Prefixes) -> Position
+        ensures top { result.top ≡ top }
+        ensures held { held_of result ≡ Held.Awaits run }
+    {
+        let value = Value::Bits(0);
+        Position {
+            top,
+            awaits: true,
+            run,
+            operand: Meaning {
+                unsigned: false,
+                value,
+            },
+        }
+    }
+
+    /// An operand stands at the end.
+    #[inline(always)]
+    #[tactic(auto, unfolding(crate::specs::Frames::held_of))]
+    fn behind(top: usize, operand: Meaning) -> Position
+        ensures top { result.top ≡ top }
+        ensures held { held_of result ≡ Held.Has operand }
+    {
+        Position {
+            top,
+            awaits: false,
+            run: Prefixes::NONE,
+            operand,
+        }
+    }
+
     /// What stands at the end.
-    pub(crate) held: Held,
+    #[inline(always)]
+    #[tactic(auto, unfolding(crate::specs::Frames::held_of))]
+    fn held(self) -> Held
+        ensures { result ≡ held_of self }
+    {
+        if self.awaits {
+            Held::Awaits(self.run)
+        } else {
+            Held::Has(self.operand)
+        }
+    }
 }
 
 // The level of each operator, in the order of their declaration. A look-up costs the same for each, where the branches of a
@@ -108,14 +161,11 @@ fn put(frames: &mut [Frame], top: usize, frame: Frame) -> Position
     requires room { 0 < top }
     requires within { top ≤ length frames.old }
     ensures frames { drop result.top frames.new ≡ frame ∷ drop top frames.old }
-    ensures held { result.held ≡ Held.Awaits Prefixes.NONE }
+    ensures held { held_of result ≡ Held.Awaits Prefixes.NONE }
     ensures within { result.top ≤ length frames.new }
 {
     frames[top - 1] = frame;
-    Position {
-        top: top - 1,
-        held: Held::Awaits(Prefixes::NONE),
-    }
+    Position::before(top - 1, Prefixes::NONE)
 }
 
 /// The operator that a symbol is before an operand.
@@ -144,17 +194,11 @@ fn read_operand(frames: &mut [Frame], top: usize, run: Prefixes, symbol: Symbol)
         Symbol::Number { bits, unsigned } => {
             let value = Value::Bits(bits);
             let operand = run.apply(Meaning { unsigned, value });
-            Some(Position {
-                top,
-                held: Held::Has(operand),
-            })
+            Some(Position::behind(top, operand))
         }
         Symbol::OpenParenthesis => Some(put(frames, top, Frame::Inside(run))),
         _ => match prefix_operator(symbol) {
-            Some(operator) => Some(Position {
-                top,
-                held: Held::Awaits(run.then(operator)),
-            }),
+            Some(operator) => Some(Position::before(top, run.then(operator))),
             None => None,
         },
     }
@@ -191,10 +235,7 @@ fn leave(frames: &[Frame], top: usize, operand: Meaning) -> Option<Position>
     let Frame::Inside(run) = frames[top] else {
         return None;
     };
-    Some(Position {
-        top: top + 1,
-        held: Held::Has(run.apply(inner)),
-    })
+    Some(Position::behind(top + 1, run.apply(inner)))
 }
 
 /// Reads a symbol behind an operand.
@@ -234,10 +275,10 @@ pub(crate) fn read_symbol(
 ) -> Option<Position>
     requires room { 0 < position.top }
     requires within { position.top ≤ length frames.old }
-    ensures read { read_of frames.new result ≡ step (drop position.top frames.old) position.held symbol }
+    ensures read { read_of frames.new result ≡ step (drop position.top frames.old) (held_of position) symbol }
     ensures within { IfSome result (λ p. p.top ≤ length frames.new) }
 {
-    match position.held {
+    match position.held() {
         Held::Awaits(run) => read_operand(frames, position.top, run, symbol),
         Held::Has(operand) => read_behind(frames, position.top, operand, symbol),
     }
@@ -247,9 +288,9 @@ pub(crate) fn read_symbol(
 #[tactic(auto, using(crate::proofs::Closing::frame_steps), unfolding(crate::specs::Frames::whole_of, crate::specs::Frames::alone))]
 pub(crate) fn whole(frames: &[Frame], position: Position) -> Option<Meaning>
     requires { position.top ≤ length frames.now }
-    ensures { result ≡ whole_of (drop position.top frames.now) position.held }
+    ensures { result ≡ whole_of (drop position.top frames.now) (held_of position) }
 {
-    let Held::Has(operand) = position.held else {
+    let Held::Has(operand) = position.held() else {
         return None;
     };
     let (top, operand) = close(frames, position.top, 0, operand);

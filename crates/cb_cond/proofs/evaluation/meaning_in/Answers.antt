@@ -7,7 +7,12 @@ use Rattle.cb_cond.proofs.Position.{at-start, at-less, at-next, at-item, at-end}
 use Rattle.cb_cond.proofs.evaluation.meaning_in.Goals as goal
 
 pub tokens-init : goal.tokens-init
-tokens-init c = (0, at-start (left c.args.rest), start-image c.args.frames.now, omega arith)
+tokens-init c = (
+  0,
+  at-start (left c.args.rest),
+  rw c.before-position.ensures.held (rw c.before-position.ensures.top (start-image c.args.frames.now)),
+  omega (arith, c.before-position.ensures.top),
+)
 
 pub returns-then-position-eq0 : goal.returns-then-position-eq0
 returns-then-position-eq0 c = λ enough.

@@ -1,6 +1,7 @@
 use Rattle.std.proofs.Common.{◌≡◌, ℕ, ◌≤◌, length, take, drop, Some}
 use Rattle.cb_cond.specs.Parts.{left}
 use Rattle.cb_cond.specs.Symbols.{symbols}
+use Rattle.cb_cond.specs.Frames.{held_of}
 use Rattle.cb_cond.proofs.Reading.{run}
 use Rattle.cb_cond.proofs.Image.{image}
 use Rattle.cb_cond.proofs.Along.{start}
@@ -11,7 +12,7 @@ use Rattle.cb_cond.proofs.evaluation.meaning_in.Given as goal
 abbrev pub invariant-tokens : goal.invariant-tokens
 invariant-tokens l =
     (i : ℕ) × IsAt (left l.fn.rest) i (left l.rest)
-    × (image (run (take i (symbols l.language (left l.fn.rest))) start) ≡ Some (record { frames = drop l.position.top l.frames; held = l.position.held }))
+    × (image (run (take i (symbols l.language (left l.fn.rest))) start) ≡ Some (record { frames = drop l.position.top l.frames; held = held_of l.position }))
     × (l.position.top ≤ length l.frames)
 
 abbrev pub decreases-tokens : goal.decreases-tokens
