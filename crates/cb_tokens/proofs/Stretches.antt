@@ -20,7 +20,7 @@ use Rattle.cb_tokens.specs.declared.class.Class.TheVariants as classes
 use Rattle.cb_tokens.specs.Classes.{class_of}
 use Rattle.cb_tokens.specs.Cut.{StandsFirst, Piece, Cuts}
 use Rattle.cb_tokens.specs.Logical.{token_marks}
-use Rattle.cb_tokens.specs.Plain.{is_quiet, is_apart, is_plain, IsBreak, IsPlainTo, IsTokenAt, CutsPlain}
+use Rattle.cb_tokens.specs.Plain.{is_quiet, is_apart, is_plain, IsBreak, IsPlainTo, IsPlainOf, IsTokenAt, CutsPlain}
 use Rattle.cb_tokens.proofs.Punctuators.{of_punctuators}
 use Rattle.cb_tokens.proofs.Heads.{start, starts}
 use Rattle.cb_tokens.proofs.Arms.{no_slash_closed, white_stands}
@@ -612,10 +612,6 @@ one_token ms kind len h = record {
   plain = refl;
   on_line = λ line g. StandOn-append line (take len ms) [] g tt;
 }
-
--- the bytes are those of marks that are cut up to a place
-abbrev pub IsPlainOf : List ℕ → ℕ → Type 0
-IsPlainOf bs n = (ms : List Mark) → bs ≡ bytes_of ms → IsPlainTo ms n
 
 pub plain_none : (bs : List ℕ) → IsPlainOf bs 0
 plain_none bs ms e = record { pieces = []; cut = refl; plain = refl; on_line = λ line h. tt }

@@ -2,6 +2,7 @@
 use Rattle.std.specs.Prelude.{◌≡◌, ◌⊎◌, ℕ, ◌-◌, ◌<◌, ◌==◌, ◌||◌, ◌&&◌, Bool, true, false, not, List, ◌∷◌, length, slice_index, take, drop}
 use Rattle.std.specs.List.{flat_map, list_all}
 use Rattle.cb_lines.specs.declared.mark.Mark.{Mark}
+use Rattle.cb_lines.specs.Marks.{bytes_of}
 use Rattle.cb_lines.specs.Lines.{StandOn}
 use Rattle.cb_tokens.specs.Forms.{is_white, is_line_feed, is_name_byte, is_quote}
 use Rattle.cb_tokens.specs.Cut.{Piece, Cuts, StandsFirst}
@@ -54,3 +55,7 @@ pub record CutsPlain (ms : List Mark) (n : ℕ) : Type 0 where
   pub plain : list_all (λ p. is_plain p.kind) pieces ≡ true
   pub on_line : (line : ℕ) → StandOn line (take n ms)
       → StandOn line (flat_map (λ p. token_marks p.kind p.marks) (record { kind = kinds.Token kind; marks = first } ∷ pieces))
+
+-- the bytes are those of marks that are cut into white space and tokens up to a place (own)
+abbrev pub IsPlainOf : List ℕ → ℕ → Type 0
+IsPlainOf bytes n = (ms : List Mark) → bytes ≡ bytes_of ms → IsPlainTo ms n

@@ -5,7 +5,7 @@ ghost use Rattle.cb_lines.specs.declared.mark.Mark.{Mark};
 ghost use Rattle.cb_lines.specs.Marks.{bytes_of, is_line_feed};
 ghost use Rattle.cb_tokens.specs.Cut.{StandsFirst};
 ghost use Rattle.cb_tokens.specs.Forms.{is_white};
-ghost use Rattle.cb_tokens.specs.Plain.{is_quiet, is_apart, IsBreak, IsTokenAt, CutsPlain};
+ghost use Rattle.cb_tokens.specs.Plain.{is_quiet, is_apart, IsBreak, IsTokenAt, IsPlainOf, CutsPlain};
 ghost use Rattle.cb_tokens.specs.declared.first.First.{First};
 ghost use Rattle.cb_tokens.specs.declared.token.PieceKind.{PieceKind};
 ghost use Rattle.cb_tokens.specs.declared.token.TokenKind.{TokenKind};
@@ -143,22 +143,43 @@ fn begins_no_token(bytes: &[u8], at: usize) -> bool
     byte == b'\n' || (byte == b'/' && matches!(byte_at(bytes, at + 1), b'/' | b'*'))
 }
 
-/// The end of the token at a place, where it goes over another place and ends before a third.
-fn token_over(bytes: &[u8], from: usize, over: usize, end: usize) -> Option<usize>
-    requires { (from ≤ over) × (over ≤ end) × (from < end) × (end ≤ length bytes.now) }
-    ensures within { IfSome result (λ next. (over < next) × (next < end)) }
-    ensures token { IfSome result (IsTokenAt bytes.now from) }
+/// The end of the token at a place, where it ends before another place.
+#[inline]
+fn token_end(bytes: &[u8], at: usize, end: usize) -> Option<usize>
+    requires { (at < end) × (end ≤ length bytes.now) }
+    ensures within { IfSome result (λ next. (at < next) × (next < end)) }
+    ensures token { IfSome result (IsTokenAt bytes.now at) }
+    ensures line { IfSome result (λ _. slice_index bytes.now at ≢ 10) }
 {
-    if over == end || begins_no_token(bytes, over) {
+    if begins_no_token(bytes, at) {
         return None;
     }
-    match first_piece(behind(bytes, from)) {
+    match first_piece(behind(bytes, at)) {
         First::Piece {
             kind: PieceKind::Token(_),
             len,
-        } if over - from < len && len < end - from => Some(from + len),
+        } if len < end - at => Some(at + len),
         _ => None,
     }
+}
+
+/// The place behind the tokens that stand from one place on, up to the first that goes over another one, and all of which end before a
+/// third.
+fn tokens_over(bytes: &[u8], from: usize, over: usize, end: usize) -> usize
+    requires within { (from ≤ over) × (over ≤ end) × (from < end) × (end ≤ length bytes.now) }
+    ensures within { (from ≤ result) × (result < end) }
+    ensures plain { IsPlainOf bytes.now from → IsPlainOf bytes.now result }
+    ensures no_feed { ((k : ℕ) → k < from → is_line_feed (slice_index bytes.now k) ≡ false) → (k : ℕ) → k < result → is_line_feed (slice_index bytes.now k) ≡ false }
+    ensures line { slice_index bytes.now from ≡ 10 → result ≡ from }
+{
+    let mut at = from;
+    'tokens: while at <= over {
+        match token_end(bytes, at, end) {
+            Some(next) => at = next,
+            None => return at,
+        }
+    }
+    at
 }
 
 /// The bytes at the front up to a place that no piece goes over, among the first so many: a line end, the begin of a comment, or else
@@ -183,10 +204,11 @@ pub fn plain_stretch(bytes: &[u8], end: usize) -> Stretch
     'runs: loop {
         let seen = quiet_end(bytes, at, end);
         let len = last_break(bytes, at, seen, end);
-        match token_over(bytes, len, seen, end) {
-            Some(next) => at = next,
-            None => return Stretch { len, seen },
+        let next = tokens_over(bytes, len, seen, end);
+        if next <= seen {
+            return Stretch { len: next, seen };
         }
+        at = next;
     }
 }
 
@@ -202,7 +224,8 @@ mod tests {
             (b"print(a, \"b c\");\n".as_slice(), 0, 16, 16),
             (b"print(\"b c\" / 'd');\n".as_slice(), 0, 19, 19),
             (b"a L'b'\n".as_slice(), 0, 6, 6),
-            (b"a(L'b')\n".as_slice(), 0, 0, 3),
+            (b"a(L'b')\n".as_slice(), 0, 7, 7),
+            (b"a + b[c".as_slice(), 0, 6, 7),
             (b"a = 1'000 + \"b // c\" + d; // e\n".as_slice(), 0, 26, 26),
             (b"a \"b\n".as_slice(), 0, 4, 4),
             (b"a /* b */\n".as_slice(), 0, 2, 2),
