@@ -106,7 +106,7 @@ not_both v w a b k fa fb h =
       | inl same ↦ (
           let none : bit_at b k ≡ 0 = omega (arith, bit_at_and a b k, bit_at-lt b k) in
           rw (ne_eqb (get_or w k 0) 47 (not_there w 47 b k fb none)) (off (get_or v k 0 == 42))
-        )
+          )
       | inr differ ↦ (let none : bit_at a k ≡ 0 = omega (arith, differ, bit_at-lt a k) in rw (ne_eqb (get_or v k 0) 42 (not_there v 42 a k fa none)) refl)
     ]
 

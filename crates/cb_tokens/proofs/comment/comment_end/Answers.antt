@@ -1,5 +1,4 @@
 use Rattle.std.proofs.Common.{arith}
-use Rattle.cb_tokens.specs.Scan.{ends_with}
 use Rattle.cb_tokens.proofs.Comments.{ahead_start, ahead_more, ahead_here, ahead_end, ahead_run}
 use Rattle.cb_tokens.proofs.comment.comment_end.Goals as goal
 

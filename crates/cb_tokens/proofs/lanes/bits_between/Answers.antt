@@ -1,4 +1,4 @@
-use Rattle.std.proofs.Common.{◌≡◌, ℕ, leb, arith, w8}
+use Rattle.std.proofs.Common.{leb, arith, w8}
 use Rattle.std.proofs.lemmas.Simd.{bitmask_splat}
 use Rattle.cb_tokens.proofs.Masks.{low_mask, between_of}
 use Rattle.cb_tokens.proofs.lanes.bits_between.Goals as goal

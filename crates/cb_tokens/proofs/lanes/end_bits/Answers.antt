@@ -1,4 +1,4 @@
-use Rattle.std.proofs.Common.{◌≡◌, ℕ, ◌+◌, false, get_or, sym, ap, ◌∙◌, subst, arith}
+use Rattle.std.proofs.Common.{◌≡◌, ℕ, ◌+◌, get_or, sym, ap, ◌∙◌, arith}
 use Rattle.cb_tokens.specs.Scan.{ends_with}
 use Rattle.cb_tokens.proofs.Masks.{both_there, not_both}
 use Rattle.cb_tokens.proofs.lanes.end_bits.Goals as goal

@@ -1,4 +1,4 @@
-use Rattle.std.proofs.Common.{◌≡◌, ℕ, ◌+◌, ◌<◌, ◌^◌, get_or, cond, sym, ap, ◌∙◌, subst, arith}
+use Rattle.std.proofs.Common.{◌≡◌, ℕ, ◌+◌, ◌<◌, get_or, cond, ap, ◌∙◌, arith}
 use Rattle.std.proofs.lemmas.Nat.{or_lt}
 use Rattle.cb_tokens.specs.Forms.{is_name_byte}
 use Rattle.cb_tokens.proofs.Masks.{end_of_name}

@@ -1,4 +1,4 @@
-use Rattle.std.proofs.Common.{ℕ, ◌<◌, arith}
+use Rattle.std.proofs.Common.{◌<◌, arith}
 use Rattle.cb_tokens.proofs.Cutting.{piece_some}
 use Rattle.cb_tokens.proofs.plain.token_end.Goals as goal
 

@@ -1,4 +1,4 @@
-use Rattle.std.proofs.Common.{◌≡◌, ◌==◌, ℕ, ◌<◌, false, List, get_or, sym, ap, ◌∙◌, arith}
+use Rattle.std.proofs.Common.{ℕ, List, get_or, ap, ◌∙◌, arith}
 use Rattle.cb_tokens.proofs.Stretches.{plain_token}
 use Rattle.cb_tokens.proofs.Feeds.{token_no_feed}
 use Rattle.cb_tokens.proofs.plain.tokens_over.Goals as goal

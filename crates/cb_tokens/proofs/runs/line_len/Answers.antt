@@ -1,4 +1,4 @@
-use Rattle.std.proofs.Common.{◌≡◌, ℕ, true, false, not, ◌<◌, ◌==◌, length, get_or, sym, refl, arith}
+use Rattle.std.proofs.Common.{◌≡◌, ℕ, true, false, not, ◌==◌, length, get_or, sym, refl, arith}
 use Rattle.std.proofs.lemmas.Bool.{false_from_ne_true}
 use Rattle.std.proofs.lemmas.List.Sums.{prefix_len_is}
 use Rattle.cb_tokens.specs.Forms.{is_line_feed}
