@@ -1,6 +1,5 @@
 //! A pass over a tree, and the counted lines that it reaches.
 ghost use Rattle.std.specs.Prelude.{◌≡◌, ◌≤◌, ◌-◌, [], true, Bool, List, length, slice_get, Some, OnOk, IfOk, if◌then◌else◌};
-ghost use Rattle.cb_lines.specs.Lines.{span_lines};
 ghost use Rattle.codebasin.specs.Pass.{Holds, is_asked, with_numbers, is_reached, state_behind};
 ghost use Rattle.codebasin.specs.Passing.{HasPassed};
 ghost use Rattle.cb_tree.specs.Nodes.{Node, node_rest};
@@ -8,29 +7,18 @@ ghost use Rattle.cb_tree.specs.Nodes.{Node, node_rest};
 use crate::early::is_ready_at;
 use crate::names::Names;
 use crate::pass::Pass;
-use cb_lines::{Lines, Span};
+use cb_lines::Lines;
 use cb_paths::NoMemory;
 use cb_tree::Tree;
 use std::alloc::Global;
 
-/// Adds the lines of a span to a set.
-#[tactic(auto, using(crate::proofs::Numbers::with_numbers_range))]
-fn add_span(set: &mut Lines, span: Span) -> Result<(), NoMemory>
-    ensures { OnOk result (set.new ≡ with_numbers (span_lines span) set.old) }
-{
-    for line in u64::from(span.first)..u64::from(span.last) + 1 {
-        set.add(line as u32)?;
-    }
-    Ok(())
-}
-
-/// Adds the lines of one set to another.
+/// Adds the lines of one set to another, span by span.
 #[tactic(auto, using(crate::proofs::Numbers::with_numbers_append))]
 fn add_all(set: &mut Lines, lines: &Lines) -> Result<(), NoMemory>
     ensures { OnOk result (set.new ≡ with_numbers lines.now set.old) }
 {
     for span in lines.spans() {
-        add_span(set, *span)?;
+        set.add_span(*span)?;
     }
     Ok(())
 }
