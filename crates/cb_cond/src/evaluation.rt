@@ -24,7 +24,7 @@ pub(crate) enum Attempt {
 fn meaning_in(language: Language, mut rest: Rest, frames: &mut [Frame]) -> Attempt
     ensures { IsAttempt (symbols language (left rest.entry)) (length frames.old) result }
 {
-    let mut position = Position::before(frames.len(), Prefixes::NONE);
+    let mut position = Position::start(frames.len());
     'tokens: while let Some(token) = rest.next() {
         if position.top == 0 {
             return Attempt::Crowded;

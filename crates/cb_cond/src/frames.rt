@@ -32,7 +32,8 @@ pub(crate) enum Held {
     Has(Meaning),
 }
 
-/// How far a condition was read. The parts of both cases lie side by side, so that each has a place of its own.
+/// How far a condition was read. The parts of both cases lie side by side, so that each has a place of its own, and the case
+/// that does not hold keeps what it had.
 #[derive(Clone, Copy, Debug, PartialEq, Eq)]
 pub(crate) struct Position {
     /// Where the innermost frame lies.
@@ -46,18 +47,17 @@ pub(crate) struct Position {
 }
 
 impl Position {
-    /// An operand is to come behind a run of operators.
-    #[inline(always)]
+    /// Nothing was read: an operand is to come.
     #[tactic(auto, unfolding(crate::specs::Frames::held_of))]
-    pub(crate) fn before(top: usize, run: Prefixes) -> Position
+    pub(crate) fn start(top: usize) -> Position
         ensures top { result.top ≡ top }
-        ensures held { held_of result ≡ Held.Awaits run }
+        ensures held { held_of result ≡ Held.Awaits Prefixes.NONE }
     {
         let value = Value::Bits(0);
         Position {
             top,
             awaits: true,
-            run,
+            run: Prefixes::NONE,
             operand: Meaning {
                 unsigned: false,
                 value,
@@ -65,17 +65,32 @@ impl Position {
         }
     }
 
+    /// An operand is to come behind a run of operators.
+    #[inline(always)]
+    #[tactic(auto, unfolding(crate::specs::Frames::held_of))]
+    fn before(self, top: usize, run: Prefixes) -> Position
+        ensures top { result.top ≡ top }
+        ensures held { held_of result ≡ Held.Awaits run }
+    {
+        Position {
+            top,
+            awaits: true,
+            run,
+            operand: self.operand,
+        }
+    }
+
     /// An operand stands at the end.
     #[inline(always)]
     #[tactic(auto, unfolding(crate::specs::Frames::held_of))]
-    fn behind(top: usize, operand: Meaning) -> Position
+    fn behind(self, top: usize, operand: Meaning) -> Position
         ensures top { result.top ≡ top }
         ensures held { held_of result ≡ Held.Has operand }
     {
         Position {
             top,
             awaits: false,
-            run: Prefixes::NONE,
+            run: self.run,
             operand,
         }
     }
@@ -156,8 +171,20 @@ fn close(frames: &[Frame], top: usize, level: u8, operand: Meaning) -> (usize, M
     (top, operand)
 }
 
+/// Ends the frames that what follows ends, as `close` does, for what follows seldom.
+#[inline(never)]
+fn close_apart(frames: &[Frame], top: usize, level: u8, operand: Meaning) -> (usize, Meaning)
+    requires { top ≤ length frames.now }
+    ensures value { record { frames = drop result.0 frames.now; operand = result.1 } ≡ closed level (drop top frames.now) operand }
+    ensures above { top ≤ result.0 }
+    ensures within { result.0 ≤ length frames.now }
+{
+    close(frames, top, level, operand)
+}
+
 /// Puts a frame on the others; an operand is to come.
-fn put(frames: &mut [Frame], top: usize, frame: Frame) -> Position
+#[inline(always)]
+fn put(frames: &mut [Frame], position: Position, top: usize, frame: Frame) -> Position
     requires room { 0 < top }
     requires within { top ≤ length frames.old }
     ensures frames { drop result.top frames.new ≡ frame ∷ drop top frames.old }
@@ -165,7 +192,7 @@ fn put(frames: &mut [Frame], top: usize, frame: Frame) -> Position
     ensures within { result.top ≤ length frames.new }
 {
     frames[top - 1] = frame;
-    Position::before(top - 1, Prefixes::NONE)
+    position.before(top - 1, Prefixes::NONE)
 }
 
 /// The operator that a symbol is before an operand.
@@ -184,21 +211,26 @@ fn prefix_operator(symbol: Symbol) -> Option<Prefix>
 
 /// Reads a symbol where an operand is to come.
 #[tactic(auto, using(crate::proofs::Closing::frame_steps), unfolding(crate::specs::Frames::awaiting, crate::specs::Frames::prefixed, crate::specs::Frames::opened, crate::specs::Frames::read_of))]
-fn read_operand(frames: &mut [Frame], top: usize, run: Prefixes, symbol: Symbol) -> Option<Position>
-    requires room { 0 < top }
-    requires within { top ≤ length frames.old }
-    ensures read { read_of frames.new result ≡ awaiting (drop top frames.old) run symbol }
+fn read_operand(
+    frames: &mut [Frame],
+    position: Position,
+    run: Prefixes,
+    symbol: Symbol,
+) -> Option<Position>
+    requires room { 0 < position.top }
+    requires within { position.top ≤ length frames.old }
+    ensures read { read_of frames.new result ≡ awaiting (drop position.top frames.old) run symbol }
     ensures within { IfSome result (λ p. p.top ≤ length frames.new) }
 {
     match symbol {
         Symbol::Number { bits, unsigned } => {
             let value = Value::Bits(bits);
             let operand = run.apply(Meaning { unsigned, value });
-            Some(Position::behind(top, operand))
+            Some(position.behind(position.top, operand))
         }
-        Symbol::OpenParenthesis => Some(put(frames, top, Frame::Inside(run))),
+        Symbol::OpenParenthesis => Some(put(frames, position, position.top, Frame::Inside(run))),
         _ => match prefix_operator(symbol) {
-            Some(operator) => Some(Position::before(top, run.then(operator))),
+            Some(operator) => Some(position.before(position.top, run.then(operator))),
             None => None,
         },
     }
@@ -206,62 +238,62 @@ fn read_operand(frames: &mut [Frame], top: usize, run: Prefixes, symbol: Symbol)
 
 /// Reads a `:` behind a first branch.
 #[tactic(auto, unfolding(crate::specs::Frames::holding, crate::specs::Frames::answered, crate::specs::Frames::opened, crate::specs::Frames::read_of))]
-fn answer(frames: &mut [Frame], top: usize, operand: Meaning) -> Option<Position>
-    requires { top ≤ length frames.old }
-    ensures read { read_of frames.new result ≡ holding (drop top frames.old) operand Symbol.Colon }
+fn answer(frames: &mut [Frame], position: Position, operand: Meaning) -> Option<Position>
+    requires { position.top ≤ length frames.old }
+    ensures read { read_of frames.new result ≡ holding (drop position.top frames.old) operand Symbol.Colon }
     ensures within { IfSome result (λ p. p.top ≤ length frames.new) }
 {
-    let (top, first) = close(frames, top, 0, operand);
+    let (top, first) = close_apart(frames, position.top, 0, operand);
     if top == frames.len() {
         return None;
     }
     let Frame::Asked(condition) = frames[top] else {
         return None;
     };
-    Some(put(frames, top + 1, Frame::Answered(condition, first)))
+    Some(put(frames, position, top + 1, Frame::Answered(condition, first)))
 }
 
 /// Reads a closing parenthesis.
 #[tactic(auto, unfolding(crate::specs::Frames::holding, crate::specs::Frames::parenthesized, crate::specs::Frames::read_of))]
-fn leave(frames: &[Frame], top: usize, operand: Meaning) -> Option<Position>
-    requires { top ≤ length frames.now }
-    ensures read { read_of frames.now result ≡ holding (drop top frames.now) operand Symbol.CloseParenthesis }
+fn leave(frames: &[Frame], position: Position, operand: Meaning) -> Option<Position>
+    requires { position.top ≤ length frames.now }
+    ensures read { read_of frames.now result ≡ holding (drop position.top frames.now) operand Symbol.CloseParenthesis }
     ensures within { IfSome result (λ p. p.top ≤ length frames.now) }
 {
-    let (top, inner) = close(frames, top, 0, operand);
+    let (top, inner) = close(frames, position.top, 0, operand);
     if top == frames.len() {
         return None;
     }
     let Frame::Inside(run) = frames[top] else {
         return None;
     };
-    Some(Position::behind(top + 1, run.apply(inner)))
+    Some(position.behind(top + 1, run.apply(inner)))
 }
 
 /// Reads a symbol behind an operand.
 #[tactic(auto, unfolding(crate::specs::Frames::holding, crate::specs::Frames::answered, crate::specs::Frames::parenthesized, crate::specs::Frames::opened, crate::specs::Frames::read_of))]
 fn read_behind(
     frames: &mut [Frame],
-    top: usize,
+    position: Position,
     operand: Meaning,
     symbol: Symbol,
 ) -> Option<Position>
-    requires room { 0 < top }
-    requires within { top ≤ length frames.old }
-    ensures read { read_of frames.new result ≡ holding (drop top frames.old) operand symbol }
+    requires room { 0 < position.top }
+    requires within { position.top ≤ length frames.old }
+    ensures read { read_of frames.new result ≡ holding (drop position.top frames.old) operand symbol }
     ensures within { IfSome result (λ p. p.top ≤ length frames.new) }
 {
     match symbol {
         Symbol::Between(operator) => {
-            let (top, left) = close(frames, top, level_of(operator), operand);
-            Some(put(frames, top, Frame::Left(operator, left)))
+            let (top, left) = close(frames, position.top, level_of(operator), operand);
+            Some(put(frames, position, top, Frame::Left(operator, left)))
         }
         Symbol::Question => {
-            let (top, condition) = close(frames, top, 1, operand);
-            Some(put(frames, top, Frame::Asked(condition)))
+            let (top, condition) = close_apart(frames, position.top, 1, operand);
+            Some(put(frames, position, top, Frame::Asked(condition)))
         }
-        Symbol::Colon => answer(frames, top, operand),
-        Symbol::CloseParenthesis => leave(frames, top, operand),
+        Symbol::Colon => answer(frames, position, operand),
+        Symbol::CloseParenthesis => leave(frames, position, operand),
         _ => None,
     }
 }
@@ -279,8 +311,8 @@ pub(crate) fn read_symbol(
     ensures within { IfSome result (λ p. p.top ≤ length frames.new) }
 {
     match position.held() {
-        Held::Awaits(run) => read_operand(frames, position.top, run, symbol),
-        Held::Has(operand) => read_behind(frames, position.top, operand, symbol),
+        Held::Awaits(run) => read_operand(frames, position, run, symbol),
+        Held::Has(operand) => read_behind(frames, position, operand, symbol),
     }
 }
 
@@ -293,7 +325,7 @@ pub(crate) fn whole(frames: &[Frame], position: Position) -> Option<Meaning>
     let Held::Has(operand) = position.held() else {
         return None;
     };
-    let (top, operand) = close(frames, position.top, 0, operand);
+    let (top, operand) = close_apart(frames, position.top, 0, operand);
     if top < frames.len() {
         return None;
     }

@@ -10,8 +10,8 @@ pub tokens-init : goal.tokens-init
 tokens-init c = (
   0,
   at-start (left c.args.rest),
-  rw c.before-position.ensures.held (rw c.before-position.ensures.top (start-image c.args.frames.now)),
-  omega (arith, c.before-position.ensures.top),
+  rw c.start-position.ensures.held (rw c.start-position.ensures.top (start-image c.args.frames.now)),
+  omega (arith, c.start-position.ensures.top),
 )
 
 pub returns-then-position-eq0 : goal.returns-then-position-eq0
