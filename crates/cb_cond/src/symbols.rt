@@ -38,8 +38,7 @@ pub(crate) fn token_symbol(language: Language, token: &Token) -> Symbol
     if let TokenKind::Number = token.kind {
         return integer_symbol(token.text.as_slice());
     }
-    let symbol = other_symbol(language, token);
-    symbol
+    other_symbol(language, token)
 }
 
 /// What a punctuator is to the grammar, and nothing of another token: enough to see the parentheses and question marks.
