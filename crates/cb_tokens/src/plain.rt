@@ -183,8 +183,7 @@ fn tokens_over(bytes: &[u8], from: usize, over: usize, end: usize) -> usize
 }
 
 /// The bytes at the front up to a place that no piece goes over, among the first so many: a line end, the begin of a comment, or else
-/// the last end of white space before what has to be looked at piece by piece. It goes past quotes, and past slashes that begin no
-/// comment.
+/// the begin of the first token that does not end among them. It goes past quotes, and past slashes that begin no comment.
 pub fn plain_stretch(bytes: &[u8], end: usize) -> Stretch
     requires { end ≤ length bytes.now }
     ensures seen { result.seen < end → is_quiet (slice_index bytes.now result.seen) ≡ false }
