@@ -5,9 +5,13 @@ use Rattle.std.specs.List.{flat_map}
 use Rattle.std.proofs.lemmas.Grind.{flat_map-append}
 use Rattle.std.proofs.lemmas.List.{at_drop_more, drop_all}
 use Rattle.std.proofs.lemmas.Option.{slice_get-get_or}
+use Rattle.std.specs.Option.{option_map}
+use Rattle.cb_tokens.specs.declared.token.Token.{Token}
+use Rattle.cb_tree.specs.declared.node.NodeKind.{NodeKind}
 use Rattle.cb_tree.specs.declared.node.NodeKind.TheVariants.{Text}
 use Rattle.cb_tree.specs.Nodes.{Node, node_rest}
 use Rattle.codebasin.specs.Pass.{State, Reaches, Holds, is_asked, with_numbers, lines_of_nodes, is_reached, reached_here, state_behind}
+use Rattle.codebasin.proofs.NotYetSteps.{held_is}
 use Rattle.codebasin.proofs.Numbers.{with_numbers_append}
 
 -- what a pass has reached on the way from a state to a place
@@ -55,6 +59,33 @@ reached_more nodes from i state state' set set' h state_is set_is was =
           let first : drop i nodes ≡ n ∷ drop (i + 1) nodes = at_drop_more (λ ns. ns) nodes i none h in
           subst R (sym (append_assoc was.before here more)) (was.behind (here ++ more) (subst Q (sym first) next));
     }
+
+-- the same, by the kind, the tokens and the counted lines of the node
+pub reached_next : (nodes : List Node) (from : State) (i : ℕ) (state state' : State) (set set' : List ℕ)
+    → i < length nodes
+    → (kind : NodeKind) (rest : List Token) (counted : List ℕ)
+    → option_map (λ (n : Node). n.kind) (slice_get nodes (i + 1 - 1)) ≡ Some kind
+    → option_map node_rest (slice_get nodes (i + 1 - 1)) ≡ Some rest
+    → option_map (λ (n : Node). n.counted) (slice_get nodes (i + 1 - 1)) ≡ Some counted
+    → ((holds : Bool) × (is_asked kind state.sections ≡ true → Holds kind rest state.names holds) × (state' ≡ state_behind kind holds rest state))
+    → set' ≡ with_numbers (if is_reached kind state.sections then counted else []) set
+    → HasReached nodes from i state set
+    → HasReached nodes from (i + 1) state' set'
+reached_next nodes from i state state' set set' h kind rest counted kind_is rest_is counted_is state_is set_is was =
+    reached_more nodes from i state state' set set' h
+    (λ n at.
+    let k = held_is (λ (n : Node). n.kind) nodes (i + 1 - 1) n kind at kind_is in
+    let r = held_is node_rest nodes (i + 1 - 1) n rest at rest_is in
+    let P : NodeKind → Type 0 = λ kind. (holds : Bool) × (is_asked kind state.sections ≡ true → Holds kind rest state.names holds) × (state' ≡ state_behind kind holds rest state) in
+    let Q : List Token → Type 0 = λ rest. (holds : Bool) × (is_asked n.kind state.sections ≡ true → Holds n.kind rest state.names holds) × (state' ≡ state_behind n.kind holds rest state) in
+    subst Q r (subst P k state_is))
+    (λ n at.
+    let k = held_is (λ (n : Node). n.kind) nodes (i + 1 - 1) n kind at kind_is in
+    let l = held_is (λ (n : Node). n.counted) nodes (i + 1 - 1) n counted at counted_is in
+    let P : NodeKind → Type 0 = λ kind. set' ≡ with_numbers (if is_reached kind state.sections then counted else []) set in
+    let Q : List ℕ → Type 0 = λ counted. set' ≡ with_numbers (if is_reached n.kind state.sections then counted else []) set in
+    subst Q l (subst P k set_is))
+    was
 
 -- all at last
 pub reached_all : (nodes : List Node) (from : State) (i : ℕ) (state : State) (set : List ℕ) → length nodes ≤ i → HasReached nodes from i state set

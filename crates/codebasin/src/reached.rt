@@ -1,15 +1,15 @@
 //! A pass over a tree, and the counted lines that it reaches.
-ghost use Rattle.std.specs.Prelude.{◌≡◌, ◌≤◌, ◌-◌, [], true, Bool, List, length, slice_get, Some, OnOk, IfOk, if◌then◌else◌};
+ghost use Rattle.std.specs.Prelude.{◌≡◌, [], true, Bool, OnOk, IfOk, if◌then◌else◌};
 ghost use Rattle.codebasin.specs.Pass.{Holds, is_asked, with_numbers, is_reached, state_behind};
 ghost use Rattle.codebasin.specs.Passing.{HasPassed};
-ghost use Rattle.cb_tree.specs.Nodes.{Node, node_rest};
 
-use crate::early::is_ready_at;
+use crate::early::is_ready;
 use crate::names::Names;
 use crate::pass::Pass;
 use cb_lines::Lines;
 use cb_paths::NoMemory;
-use cb_tree::Tree;
+use cb_tokens::Token;
+use cb_tree::{NodeKind, Tree};
 use std::alloc::Global;
 
 /// Adds the lines of one set to another, span by span.
@@ -33,24 +33,22 @@ fn add_where(set: &mut Lines, reached: bool, lines: &Lines) -> Result<(), NoMemo
     Ok(())
 }
 
-/// Goes past a node, whose counted lines go into the set where it is reached.
+/// Goes past a node of the kind, whose counted lines go into the set where it is reached.
 fn visit<'a>(
     alloc: Global,
     pass: &mut Pass<'a>,
     set: &mut Lines,
-    tree: &'a Tree,
-    node: u32,
+    kind: NodeKind,
+    rest: &'a [Token],
+    counted: &Lines,
 ) -> Result<(), NoMemory>
-    requires { (1 ≤ node) × (node ≤ length tree.now) }
-    ensures state { OnOk result ((n : Node) → slice_get tree.now (node - 1) ≡ Some n → (holds : Bool)
-        × (is_asked n.kind pass.old.sections ≡ true → Holds n.kind (node_rest n) pass.old.names holds)
-        × (pass.new ≡ state_behind n.kind holds (node_rest n) pass.old)) }
-    ensures lines { OnOk result ((n : Node) → slice_get tree.now (node - 1) ≡ Some n
-        → set.new ≡ with_numbers (if is_reached n.kind pass.old.sections then n.counted else []) set.old) }
+    ensures state { OnOk result ((holds : Bool)
+        × (is_asked kind pass.old.sections ≡ true → Holds kind rest.now pass.old.names holds)
+        × (pass.new ≡ state_behind kind holds rest.now pass.old)) }
+    ensures lines { OnOk result (set.new ≡ with_numbers (if is_reached kind pass.old.sections then counted.now else []) set.old) }
 {
-    let kind = tree.kind(node);
-    add_where(set, pass.reaches(kind), tree.counted(node))?;
-    pass.go_past(alloc, kind, tree.rest(node))
+    add_where(set, pass.reaches(kind), counted)?;
+    pass.go_past(alloc, kind, rest)
 }
 
 /// How far a pass went over a tree.
@@ -73,10 +71,13 @@ pub(crate) fn pass_over<'a>(
     let mut lines = Lines::new(alloc);
     let mut pass = Pass::new(alloc, names);
     for index in 0..tree.len() {
-        if !is_ready_at(tree, index + 1) {
+        let kind = tree.kind(index + 1);
+        let rest = tree.rest(index + 1);
+        if !is_ready(kind, rest) {
             return Ok(Passed::UpTo(tree.line(index + 1)));
         }
-        visit(alloc, &mut pass, &mut lines, tree, index + 1)?;
+        let counted = tree.counted(index + 1);
+        visit(alloc, &mut pass, &mut lines, kind, rest, counted)?;
     }
     Ok(Passed::All(lines))
 }

@@ -4,8 +4,8 @@ use Rattle.std.proofs.lemmas.List.{drop_all}
 use Rattle.cb_tree.specs.Nodes.{node_line}
 use Rattle.codebasin.specs.NotYet.{first_unready}
 use Rattle.codebasin.specs.Pass.{State}
-use Rattle.codebasin.proofs.NotYetSteps.{first_unready-at}
-use Rattle.codebasin.proofs.PassSteps.{HasReached, reached_none, reached_more, reached_all}
+use Rattle.codebasin.proofs.NotYetSteps.{ready_at, first_unready-at}
+use Rattle.codebasin.proofs.PassSteps.{HasReached, reached_none, reached_next, reached_all}
 use Rattle.codebasin.proofs.reached.pass_over.Goals as goal
 
 pub loop-index-init : goal.loop-index-init
@@ -16,18 +16,21 @@ loop-index-init c =
     let Q : List ℕ → Type 0 = λ set. HasReached tree from 0 from set in
     record { reached = subst P (sym c.new-pass.ensures) (subst Q (sym c.new-lines.ensures) (reached_none tree from)); ready = refl }
 
-pub returns-then-not-is_ready_at : goal.returns-then-not-is_ready_at
-returns-then-not-is_ready_at c =
+pub returns-then-not-is_ready : goal.returns-then-not-is_ready
+returns-then-not-is_ready c =
     let within : c.loop-index.index < length c.args.tree.now = omega (arith, c.len-index-end.ensures, c.loop-index-test.true) in
-    let step = first_unready-at c.args.tree.now c.loop-index.index false within c.if-not-is_ready_at.ensures in
+    let step = first_unready-at c.args.tree.now c.loop-index.index false within
+    (ready_at c.args.tree.now c.loop-index.index false c.kind-kind.result c.rest-rest.result.now c.kind-kind.ensures c.rest-rest.ensures c.if-not-is_ready.ensures) in
     sym (sym c.line.ensures ∙ ap (option_map node_line) step.1 ∙ sym step.2 ∙ c.loop-index.invariant.ready)
 
 pub loop-index-preserved : goal.loop-index-preserved
 loop-index-preserved c =
     let within : c.loop-index.index < length c.args.tree.now = omega (arith, c.len-index-end.ensures, c.loop-index-test.true) in
-    let step = first_unready-at c.args.tree.now c.loop-index.index true within c.if-not-is_ready_at.ensures in
+    let step = first_unready-at c.args.tree.now c.loop-index.index true within
+    (ready_at c.args.tree.now c.loop-index.index true c.kind-kind.result c.rest-rest.result.now c.kind-kind.ensures c.rest-rest.ensures c.if-not-is_ready.ensures) in
     record {
-      reached = reached_more c.args.tree.now _ c.loop-index.index c.loop-index.pass c.visit.new.pass c.loop-index.lines c.visit.new.set within
+      reached = reached_next c.args.tree.now _ c.loop-index.index c.loop-index.pass c.visit.new.pass c.loop-index.lines c.visit.new.set within
+          c.kind-kind.result c.rest-rest.result.now c.counted-counted.result.now c.kind-kind.ensures c.rest-rest.ensures c.counted-counted.ensures
           c.in_ok-visit.ensures.state c.in_ok-visit.ensures.lines c.loop-index.invariant.reached;
       ready = sym step.2 ∙ c.loop-index.invariant.ready;
     }
