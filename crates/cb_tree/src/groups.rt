@@ -14,6 +14,9 @@ fn step_back(turns: &mut Vec<u32>, kind: NodeKind, node: u32) -> Result<Option<u
     ensures end { IfOk result (λ end. end ≡ end_by kind (reverse turns.old.items)) }
     ensures turns { OnOk result (reverse turns.new.items ≡ turns_with kind node (reverse turns.old.items)) }
 {
+    if kind == NodeKind::Text {
+        return Ok(None);
+    }
     match kind {
         NodeKind::If | NodeKind::Ifdef | NodeKind::Ifndef => Ok(turns.pop()),
         NodeKind::Elif | NodeKind::Else => {

@@ -121,11 +121,14 @@ impl Sections {
         }
     }
 
-    /// Goes past a node of the kind that stands on the line.
+    /// Goes past a node of the kind that stands on the line. Text, which is every second node, is told first.
     pub(crate) fn after(&mut self, kind: NodeKind, line: u32) -> Result<(), BuildFault>
         ensures ok { OnOk result (sections_after kind line self.old ≡ Ok self.new) }
         ensures err { (f : Fault) → result ≡ Err (BuildFault.Bad f) → sections_after kind line self.old ≡ Err f }
     {
+        if kind == NodeKind::Text {
+            return Ok(());
+        }
         match kind {
             NodeKind::If | NodeKind::Ifdef | NodeKind::Ifndef => self.open_one(line),
             NodeKind::Elif => self.pass_elif(line),
