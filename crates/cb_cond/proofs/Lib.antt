@@ -12,7 +12,6 @@ pub mod Along
 pub mod Position
 pub mod Depth
 pub mod Wide
-pub mod OneByte
 pub mod Unique
 pub mod Constants
 pub mod Plain
