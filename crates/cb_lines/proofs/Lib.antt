@@ -11,5 +11,4 @@ pub mod Positions
 pub mod Singles
 pub mod SpanLists
 pub mod Stretching
-pub mod Vectors
 pub mod Written

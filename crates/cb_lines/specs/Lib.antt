@@ -1,5 +1,4 @@
 pub mod Held
-pub mod Lanes
 pub mod Marks
 pub mod Lines
 pub mod Merging

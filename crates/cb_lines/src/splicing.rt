@@ -3,9 +3,9 @@ ghost use Rattle.std.specs.Prelude.{◌≡◌, ◌||◌, ◌<◌, ◌≤◌, ◌
 ghost use Rattle.cb_lines.specs.Held.{is_special};
 ghost use Rattle.cb_lines.specs.Marks.{marks_of, byte_at, begins_line_end, is_line_return, is_splice, is_deleted, is_line_feed};
 
-use crate::lanes::{LANES, candidates, lowest};
+use crate::lanes::candidates;
 use crate::mark::Marks;
-use cb_paths::NoMemory;
+use cb_paths::{LANES, NoMemory, lowest};
 use memchr::memchr2;
 use std::alloc::Global;
 use std::borrow::CowSlice;
@@ -113,14 +113,14 @@ fn candidate_from(source: &[u8], from: usize) -> usize
 }
 
 /// The first position from one on at which the CR of a line end or a backslash before a line end stands; the length where there is
-/// none. The first CR or backslash is sought alone, since most sources have few of them.
+/// none.
 fn cut_from(source: &[u8], from: usize) -> usize
     requires { from ≤ length source.now }
     ensures within { (from ≤ result) × (result ≤ length source.now) }
     ensures stays { (k : ℕ) → from ≤ k → k < result → (is_line_return source.now k ≡ false) × (is_splice source.now k ≡ false) }
     ensures cut { result < length source.now → is_line_return source.now result ≡ false → is_splice source.now result ≡ true }
 {
-    let mut at = special_from(source, from);
+    let mut at = candidate_from(source, from);
     'candidates: while at < source.len() {
         if is_cut(source, at) {
             return at;
@@ -128,6 +128,14 @@ fn cut_from(source: &[u8], from: usize) -> usize
         at = candidate_from(source, at + 1);
     }
     at
+}
+
+/// The first such position of all. The first CR or backslash is sought alone, since most sources have few of them.
+fn first_cut(source: &[u8]) -> usize
+    ensures within { result ≤ length source.now }
+    ensures stays { (k : ℕ) → k < result → (is_line_return source.now k ≡ false) × (is_splice source.now k ≡ false) }
+{
+    cut_from(source, special_from(source, 0))
 }
 
 /// The position behind the line end that begins at a position.
@@ -147,7 +155,7 @@ fn behind_line_end(source: &[u8], at: usize) -> usize
 pub fn marks(alloc: Global, source: &[u8]) -> Result<Marks<'_>, NoMemory>
     ensures { IfOk result (λ m. m ≡ marks_of source.now) }
 {
-    if cut_from(source, 0) == source.len() {
+    if first_cut(source) == source.len() {
         return Ok(Marks {
             bytes: CowSlice::Borrowed(source),
             splices: Vec::new(alloc),

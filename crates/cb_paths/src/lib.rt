@@ -1,12 +1,14 @@
-//! What every other crate of `codebasin` stands on: byte texts, want of memory, limits and languages.
+//! What every other crate of `codebasin` stands on: byte texts, vectors of bytes, want of memory, limits and languages.
 #![tactic(auto)]
 
 mod bytes;
+mod lanes;
 mod language;
 mod limits;
 mod memory;
 
 pub use bytes::Bytes;
+pub use lanes::{LANES, bits_of, load, lowest};
 pub use language::Language;
 pub use limits::{SECTION_LIMIT, SOURCE_BYTE_LIMIT, SOURCE_LINE_LIMIT};
 pub use memory::NoMemory;

@@ -86,6 +86,3 @@ start_stretch rest n line s hash once stands =
     run_start rest s.kind len s.cut.0.first (no_hash len (bytes_of rest) some hash.0 hash.1) in
     subst (λ (set : List ℕ). ReadsRun rest InLine set (drop n rest)) (on_one_line [] rest n line s some once stands)
     (run_pieces rest (with_lines (take len rest) []) (drop len rest) s.pieces (drop n rest) s.cut.1 s.plain head)
-
-pub first_byte : (xs bs : List ℕ) → xs ≡ take (length xs) bs → 0 < length xs → get_or bs 0 0 ≡ get_or xs 0 0
-first_byte xs bs e some = sym (head_taken (length xs) bs some) ∙ ap (λ (ys : List ℕ). get_or ys 0 0) (sym e)

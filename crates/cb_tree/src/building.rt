@@ -48,11 +48,7 @@ pub fn build(alloc: Global, source: &[u8]) -> Result<Tree, BuildFault>
     let nodes = read_source(alloc, source)?;
     let ends = group_ends(alloc, &nodes)?;
     let parts = nest(alloc, &nodes)?;
-    Ok(Tree {
-        nodes,
-        ends,
-        parts,
-    })
+    Ok(Tree { nodes, ends, parts })
 }
 
 #[cfg(test)]

@@ -119,10 +119,7 @@ impl Nodes {
     {
         let head = &self.heads[at];
         let from = kept_before(self.heads.as_slice(), at) as usize;
-        (
-            head,
-            part(self.tokens.as_slice(), from, head.to as usize),
-        )
+        (head, part(self.tokens.as_slice(), from, head.to as usize))
     }
 
     /// The tokens of a directive behind its name, or behind its `#` where no identifier follows that; none of text.

@@ -1,4 +1,4 @@
-use Rattle.std.proofs.Common.{◌≤◌, ◌∙◌, ap, take, arith}
+use Rattle.std.proofs.Common.{◌∙◌, ap, take}
 use Rattle.std.proofs.lemmas.List.{take-take}
 use Rattle.cb_paths.proofs.bytes.front.Goals as goal
 

@@ -1,4 +1,4 @@
-use Rattle.std.proofs.Common.{◌≡◌, ◌+◌, ◌-◌, ◌<◌, ℕ, false, List, drop, get_or, subst, arith}
+use Rattle.std.proofs.Common.{◌≡◌, ◌<◌, ℕ, false, List, drop, get_or, subst, arith}
 use Rattle.cb_lines.specs.Marks.{is_line_feed}
 use Rattle.cb_tokens.specs.Cut.{StandsFirst}
 use Rattle.cb_tokens.specs.declared.first.First.TheVariants as first

@@ -1,4 +1,4 @@
-use Rattle.std.proofs.Common.{◌≡◌, ◌<◌, length, ap, sym, arith}
+use Rattle.std.proofs.Common.{◌<◌, length, ap, sym, arith}
 use Rattle.cb_tree.proofs.Heads.{as_many, within_at, node_at}
 use Rattle.cb_tree.proofs.nodes.Nodes.kept.Goals as goal
 

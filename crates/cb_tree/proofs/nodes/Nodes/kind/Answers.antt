@@ -1,4 +1,4 @@
-use Rattle.std.proofs.Common.{◌≡◌, ◌<◌, length, ap, sym, arith}
+use Rattle.std.proofs.Common.{◌<◌, length, ap, sym, arith}
 use Rattle.std.specs.Option.{option_map}
 use Rattle.cb_tree.specs.Nodes.{Node}
 use Rattle.cb_tree.proofs.Heads.{as_many, node_at}
