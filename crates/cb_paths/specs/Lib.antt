@@ -1,1 +1,3 @@
+pub mod Grid
+pub mod Names
 pub mod Texts

@@ -112,6 +112,33 @@ impl Bytes {
         Ok(Bytes { text })
     }
 
+    /// The bytes of a vector. Those of more than 15 bytes stay where they are, and only a small box for them is allocated.
+    pub fn from_vec(alloc: Global, bytes: Vec<u8>) -> Result<Bytes, NoMemory>
+        ensures { IfOk result (λ b. b ≡ bytes.items) }
+    {
+        if bytes.len() <= FULL {
+            return Bytes::from_slice(alloc, bytes.as_slice());
+        }
+        let bytes = Box::new(alloc, bytes)?;
+        Ok(Bytes {
+            text: Text::Long(bytes),
+        })
+    }
+
+    /// The bytes as a vector. More than 15 bytes stay where they are, and nothing is allocated for them.
+    pub fn into_vec(self, alloc: Global) -> Result<Vec<u8>, NoMemory>
+        ensures { IfOk result (λ v. v.items ≡ self) }
+    {
+        match self.text {
+            Text::Long(bytes) => Ok(Box::into_inner(bytes)),
+            text => {
+                let short = Bytes { text };
+                let bytes = Vec::from_slice(alloc, short.as_slice())?;
+                Ok(bytes)
+            }
+        }
+    }
+
     /// The text of so many bytes at the front of these, if they are at most 14, and these at least 14. It takes no memory, and the
     /// same time for any number of bytes.
     #[inline]
@@ -158,43 +185,5 @@ impl Bytes {
         ensures { result ≡ (length self.now == 0) }
     {
         self.as_slice().is_empty()
-    }
-}
-
-#[cfg(test)]
-mod tests {
-    use super::*;
-    use std::test::Fail;
-
-    fn is_shared<T: Send + Sync>() {}
-
-    #[test]
-    fn bytes_are_kept(rt: HostRuntime) -> Result<(), Fail> {
-        is_shared::<Bytes>();
-        for text in [
-            b"".as_slice(),
-            b"a".as_slice(),
-            b"ab".as_slice(),
-            b"fourteen bytes".as_slice(),
-            b"fifteen bytes, ".as_slice(),
-            b"a text of 16 ...".as_slice(),
-            b"a text of some more than fifteen bytes".as_slice(),
-        ] {
-            let bytes = Bytes::from_slice(rt.alloc(), text)?;
-            let copy = bytes.copy(rt.alloc())?;
-            assert_eq!(rt; copy.as_slice(), text);
-            for len in 0..text.len() {
-                match Bytes::short_front(text, len) {
-                    Some(front) => assert_eq!(rt; front.as_slice(), &text[..len]),
-                    None => assert!(rt; text.len() < 14 || len > 14),
-                }
-            }
-            assert_eq!(rt; copy.len(), text.len());
-            assert_eq!(rt; bytes.is_empty(), text.is_empty());
-        }
-        assert!(rt; Bytes::new().is_empty());
-        let text = format!(in rt.alloc(); "{}", NoMemory)?;
-        assert_eq!(rt; text.as_str(), "out of memory");
-        Ok(())
     }
 }

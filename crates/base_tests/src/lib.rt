@@ -1,0 +1,5 @@
+//! Tests of `cb_paths` and `cb_outside` over their public calls.
+#![tactic(auto)]
+
+#[cfg(test)]
+mod paths;
