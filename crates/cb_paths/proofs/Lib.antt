@@ -1,1 +1,11 @@
+pub mod Again
+pub mod Below
+pub mod Folders
 pub mod Masks
+pub mod Normal
+pub mod PathFaults
+pub mod Rooted
+pub mod Sizes
+pub mod Splitting
+pub mod Suffixes
+pub mod Trails

@@ -1,3 +1,6 @@
 pub mod Grid
 pub mod Names
-pub mod Texts
+pub mod Parts
+pub mod Paths
+pub mod Languages
+pub mod inner

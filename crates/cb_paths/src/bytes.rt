@@ -1,6 +1,6 @@
 //! A text of bytes, which need not be UTF-8.
 ghost use Rattle.std.specs.Prelude.{◌≡◌, ◌==◌, ◌≤◌, [], length, take, IfOk, IfSome, IsSome};
-ghost use Rattle.cb_paths.specs.Texts.{text_of, IsText};
+ghost use Rattle.cb_paths.specs.inner.Texts.{text_of, IsText};
 
 use crate::memory::NoMemory;
 use std::alloc::Global;
@@ -35,7 +35,7 @@ impl Model for Bytes {
 
     ghost Value = { List ℕ };
 
-    ghost use Rattle.cb_paths.specs.Texts.{text_of, IsText};
+    ghost use Rattle.cb_paths.specs.inner.Texts.{text_of, IsText};
 
     ghost view = { λ b. text_of b.text };
 

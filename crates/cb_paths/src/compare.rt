@@ -1,4 +1,4 @@
-//! Texts are compared, ordered and hashed by their bytes.
+//! Texts, paths and folders are compared, ordered and hashed by their bytes.
 ghost use Rattle.std.specs.Prelude.{◌≡◌, Some, refl, bytes_eq};
 ghost use Rattle.std.proofs.Common.{rules};
 ghost use Rattle.std.specs.Ordering.{nat_cmp};
@@ -8,6 +8,8 @@ ghost use Rattle.std.specs.Cmp.Lexicographic.{slice_cmp, nat_list_eq_equiv, nat_
 ghost use Rattle.std.specs.Cmp.Rules.{hashing};
 
 use crate::bytes::Bytes;
+use crate::dir::Dir;
+use crate::path::Path;
 use std::cmp::Ordering;
 use std::hash::{Hash, Hasher};
 
@@ -56,5 +58,101 @@ impl Hash for Bytes {
 
     fn hash<H: Hasher>(&self, state: &mut H) {
         self.as_slice().hash(state);
+    }
+}
+
+impl PartialEq for Path {
+    ghost eq = { bytes_eq };
+
+    ghost laws = { partial_equiv_from_equiv nat_list_eq_equiv };
+
+    fn eq(&self, other: &Path) -> bool {
+        self.bytes() == other.bytes()
+    }
+}
+
+impl Eq for Path {
+    ghost laws = { nat_list_eq_equiv };
+}
+
+impl PartialOrd for Path {
+    ghost partial_cmp = { λ a b. Some (slice_cmp nat_cmp a b) };
+
+    ghost laws = { texts_po };
+
+    fn partial_cmp(&self, other: &Path) -> Option<Ordering> {
+        Some(self.cmp(other))
+    }
+}
+
+impl Ord for Path {
+    ghost cmp = { slice_cmp nat_cmp };
+
+    ghost total = { nat_list_cmp_total };
+
+    ghost matches_partial_cmp = { λ a b. refl };
+
+    ghost matches_eq = { texts_ties };
+
+    fn cmp(&self, other: &Path) -> Ordering {
+        self.bytes().cmp(other.bytes())
+    }
+}
+
+impl Hash for Path {
+    ghost hash_input = { λ value. fed.slice fed.u8 value };
+
+    ghost respects_eq = { Prim.search (hashing, rules) };
+
+    fn hash<H: Hasher>(&self, state: &mut H) {
+        self.bytes().hash(state);
+    }
+}
+
+impl PartialEq for Dir {
+    ghost eq = { bytes_eq };
+
+    ghost laws = { partial_equiv_from_equiv nat_list_eq_equiv };
+
+    fn eq(&self, other: &Dir) -> bool {
+        self.bytes() == other.bytes()
+    }
+}
+
+impl Eq for Dir {
+    ghost laws = { nat_list_eq_equiv };
+}
+
+impl PartialOrd for Dir {
+    ghost partial_cmp = { λ a b. Some (slice_cmp nat_cmp a b) };
+
+    ghost laws = { texts_po };
+
+    fn partial_cmp(&self, other: &Dir) -> Option<Ordering> {
+        Some(self.cmp(other))
+    }
+}
+
+impl Ord for Dir {
+    ghost cmp = { slice_cmp nat_cmp };
+
+    ghost total = { nat_list_cmp_total };
+
+    ghost matches_partial_cmp = { λ a b. refl };
+
+    ghost matches_eq = { texts_ties };
+
+    fn cmp(&self, other: &Dir) -> Ordering {
+        self.bytes().cmp(other.bytes())
+    }
+}
+
+impl Hash for Dir {
+    ghost hash_input = { λ value. fed.slice fed.u8 value };
+
+    ghost respects_eq = { Prim.search (hashing, rules) };
+
+    fn hash<H: Hasher>(&self, state: &mut H) {
+        self.bytes().hash(state);
     }
 }

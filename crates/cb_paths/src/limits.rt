@@ -8,3 +8,9 @@ pub const SOURCE_LINE_LIMIT: u32 = 200_000;
 
 /// The if sections of one source that are open at once.
 pub const SECTION_LIMIT: usize = 256;
+
+/// The bytes of the text of a path.
+pub const PATH_BYTE_LIMIT: usize = 1_024;
+
+/// The bytes of the text of a folder.
+pub const FOLDER_BYTE_LIMIT: usize = 4_096;

@@ -1,4 +1,4 @@
-//! Want of memory, the one refusal that no contract ties to an input.
+//! Being out of memory, the one refusal that no contract ties to an input.
 use std::alloc::{AllocError, AllocFailed};
 use thiserror::Error;
 
