@@ -5,7 +5,7 @@ use Rattle.std.proofs.lemmas.Bool.{eqb-true, cases_order}
 use Rattle.std.proofs.lemmas.Nat.Bits.{bit_at_or, bit_at_and, bit_at-lt}
 use Rattle.std.proofs.lemmas.Bool.{and_parts, false_from_ne_true, or_left, or_right}
 use Rattle.cb_lines.specs.Marks.{byte_at, is_line_feed, is_line_return, begins_line_end, is_splice}
-use Rattle.cb_lines.specs.Held.{is_special, is_ending}
+use Rattle.cb_lines.specs.inner.Held.{is_special, is_ending}
 
 -- a line end begins with its LF or with its CR
 ending : (f r l : Bool) → (f || (r && l)) ≡ true → (f || r) ≡ true

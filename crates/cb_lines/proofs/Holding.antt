@@ -1,11 +1,11 @@
 -- Marks kept as bytes and splices: one byte or one splice more, and what is left of them behind some.
-use Rattle.std.proofs.Common.{◌≡◌, ℕ, ◌+◌, ◌-◌, ◌^◌, ◌<◌, ◌≤◌, min, false, cond, leb, List, [], ◌∷◌, ◌++◌, length, get_or, take, drop, refl, sym, ap, ◌∙◌, subst, suc, zero, inl, inr, arith}
+use Rattle.std.proofs.Common.{◌≡◌, ℕ, ◌+◌, ◌-◌, ◌^◌, ◌<◌, ◌≤◌, min, false, cond, leb, List, [], ◌∷◌, ◌++◌, length, get_or, take, drop, refl, sym, ap, ◌∙◌, subst, suc, zero, inl, inr, arith, length-drop}
 use Rattle.std.proofs.lemmas.Bool.{cases_lt, cases_order, le-leb, lt-leb, le-ltb, lt-ltb, eq-eqb, ne_eqb}
 use Rattle.std.proofs.lemmas.List.{take_more, drop_more}
 use Rattle.cb_lines.specs.declared.mark.Mark.{Mark}
 use Rattle.cb_lines.specs.Marks.{bytes_of, first_line, is_line_feed}
 use Rattle.cb_lines.specs.Lines.{with_line, with_lines, StandOn}
-use Rattle.cb_lines.specs.Held.{passed, feeds, marks_held, Rises}
+use Rattle.cb_lines.specs.inner.Held.{passed, feeds, marks_held, Rises}
 
 -- one for an LF
 abbrev pub feed : ℕ → ℕ
@@ -181,3 +181,21 @@ pub on_line_once : (line : ℕ) (ms : List Mark) (set : List ℕ) → 0 < length
 on_line_once line [] set some h = absurd (omega arith)
 on_line_once line (m ∷ ms) set some h =
     ap (λ (l : ℕ). with_lines ms (with_line l set)) h.0 ∙ on_line_again line ms set h.1
+
+first-held : (line at : ℕ) (bs ss : List ℕ) → 0 < length bs → first_line (marks_held line at bs ss) ≡ min (2 ^ 32 - 1) (line + passed at ss)
+first-held line at [] ss some = absurd (omega arith)
+first-held line at (b ∷ bs) ss some = refl
+
+first-behind : (n line at : ℕ) (bs ss : List ℕ) → n < length bs → first_line (drop n (marks_held line at bs ss)) ≡ min (2 ^ 32 - 1) (line + feeds (take n bs) + passed (at + n) ss)
+first-behind n line at bs ss h =
+    ap first_line (held-drop n line at bs ss) ∙ first-held (line + feeds (take n bs)) (at + n) (drop n bs) ss (omega (arith, length-drop n bs))
+
+-- the mark behind a splice stands a line further
+pub splice_behind : (count line at : ℕ) (bs ss : List ℕ) → count + 1 < length bs → Rises (at + (count + 1)) ss → (passed (at + (count + 1)) ss ≡ 0 → ⊥)
+    → min (2 ^ 32 - 1) (first_line (drop count (marks_held line at bs ss)) + feed (get_or bs count 0) + 1) ≤ first_line (drop (count + 1) (marks_held line at bs ss))
+splice_behind count line at bs ss h rises some =
+    let here = first-behind count line at bs ss (omega arith) in
+    let next = first-behind (count + 1) line at bs ss h in
+    let none : passed (at + count) ss ≡ 0 = passed-none (at + count) (at + (count + 1)) ss rises (omega arith) in
+    let more : feeds (take (count + 1) bs) ≡ feeds (take count bs) + feed (get_or bs count 0) = feeds_more bs count (omega arith) in
+    rw (here, next, none, more) (omega (arith, some))

@@ -5,7 +5,7 @@ use Rattle.std.proofs.lemmas.List.{take_all, take_more, drop_all, get_or_default
 use Rattle.std.proofs.lemmas.List.Concat.{flat_map-append}
 use Rattle.cb_lines.specs.declared.line_set.Span.{Span}
 use Rattle.cb_lines.specs.Lines.{has_line, span_lines, AreMaximal}
-use Rattle.cb_lines.specs.Merging.{last_first}
+use Rattle.cb_lines.specs.inner.Merging.{last_first}
 use Rattle.cb_lines.proofs.Adding.{none}
 use Rattle.cb_lines.proofs.SpanLists.{lines, Fits, bound, Fits-from_maximal, maximal_from_Fits, Fits-left, Fits-right, Fits-append, bound-take}
 use Rattle.cb_lines.proofs.Members.{has-append, has-range_below, has-range_above, has-range_among}

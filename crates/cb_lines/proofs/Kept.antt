@@ -4,7 +4,7 @@ use Rattle.std.proofs.lemmas.Bool.{cases_Bool, cases_lt, le-leb, false≢true, f
 use Rattle.std.proofs.lemmas.List.{get_or_past, drop_more}
 use Rattle.cb_lines.specs.declared.mark.Mark.{Mark}
 use Rattle.cb_lines.specs.Marks.{byte_at, is_line_feed, is_line_return, begins_line_end, is_splice, is_spliced_feed, is_deleted, line_at, marks_from, marks_of}
-use Rattle.cb_lines.specs.Held.{passed, feeds, marks_held, Rises, is_special}
+use Rattle.cb_lines.specs.inner.Held.{passed, feeds, marks_held, Rises, is_special}
 use Rattle.cb_lines.proofs.Positions.{marks_from-taken, marks_from-stays, marks_from-end, line_at-more}
 use Rattle.cb_lines.proofs.Holding.{feed, feeds-append, held-append, held-before}
 

@@ -1,14 +1,17 @@
 pub mod Adding
+pub mod Appending
 pub mod AtEnd
 pub mod Candidates
 pub mod Counting
 pub mod Holding
 pub mod Joining
 pub mod Kept
+pub mod Lacks
 pub mod Members
 pub mod Merged
 pub mod Positions
 pub mod Singles
 pub mod SpanLists
+pub mod Stretches
 pub mod Stretching
 pub mod Written

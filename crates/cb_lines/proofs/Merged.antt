@@ -2,7 +2,7 @@
 use Rattle.std.proofs.Common.{◌≡◌, ℕ, ◌+◌, ◌≤◌, Bool, true, false, ◌||◌, List, [], ◌∷◌, refl, sym, ap, ◌∙◌, subst, inl, inr, arith}
 use Rattle.cb_lines.specs.declared.line_set.Span.{Span}
 use Rattle.cb_lines.specs.Lines.{has_line, union_of, span_lines, AreMaximal}
-use Rattle.cb_lines.specs.Merging.{BeginsFrom, TakesFirst, last_first}
+use Rattle.cb_lines.specs.inner.Merging.{BeginsFrom, TakesFirst, last_first}
 use Rattle.cb_lines.proofs.SpanLists.{lines, Fits, Fits-from_maximal, Fits-weaker}
 use Rattle.cb_lines.proofs.Members.{has-append, has-union_of, Rising-lines, Rising-union_of, same_numbers}
 use Rattle.cb_lines.proofs.Joining.{Joins}

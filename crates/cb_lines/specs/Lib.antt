@@ -1,5 +1,3 @@
-pub mod Held
 pub mod Marks
 pub mod Lines
-pub mod Merging
-pub mod Runs
+pub mod inner

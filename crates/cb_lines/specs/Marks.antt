@@ -3,7 +3,7 @@ use Rattle.std.specs.Prelude.{ℕ, ◌+◌, ◌-◌, ◌^◌, ◌==◌, ◌&&◌
 use Rattle.std.specs.List.{flat_map, range_with_len}
 use Rattle.cb_lines.specs.declared.mark.Mark.{Mark}
 
--- the byte at a position of a source; past its end 0, which no test below looks for
+-- the byte at a position of a source; past its end 0, which no test below looks for (own)
 abbrev pub byte_at : List ℕ → ℕ → ℕ
 byte_at source i = slice_index source i
 
@@ -50,11 +50,11 @@ marks_from source i = flat_map (mark_at source) (range_with_len i (length source
 abbrev pub marks_of : List ℕ → List Mark
 marks_of source = marks_from source 0
 
--- the bytes of marks
+-- the bytes of marks (own)
 abbrev pub bytes_of : List Mark → List ℕ
 bytes_of ms = map (λ m. m.byte) ms
 
--- the line of the first of the marks; 0 where there is none
+-- the line of the first of the marks; 0 where there is none (own)
 abbrev pub first_line : List Mark → ℕ
 first_line [] = 0
 first_line (m ∷ ms) = m.line

@@ -1,7 +1,7 @@
 //! Where a source may be cut, looked for at 32 positions at a time.
 ghost use Rattle.std.specs.Prelude.{◌≡◌, ◌+◌, ◌<◌, ℕ, true, length};
 ghost use Rattle.std.specs.Int.{bit_at};
-ghost use Rattle.cb_lines.specs.Held.{is_special, is_ending};
+ghost use Rattle.cb_lines.specs.inner.Held.{is_special, is_ending};
 ghost use Rattle.cb_lines.specs.Marks.{byte_at};
 
 use crate::splicing::{BACKSLASH, CARRIAGE_RETURN, LINE_FEED};

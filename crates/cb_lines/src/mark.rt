@@ -27,7 +27,7 @@ impl<'a> Model for Marks<'a> {
 
     ghost Value = { List Mark };
 
-    ghost use Rattle.cb_lines.specs.Held.{marks_held, Rises};
+    ghost use Rattle.cb_lines.specs.inner.Held.{marks_held, Rises};
 
     ghost view = { λ m. marks_held 1 0 (cow_slice_items m.bytes) m.splices.items };
 

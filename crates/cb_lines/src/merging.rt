@@ -2,11 +2,11 @@
 ghost use Rattle.std.specs.Prelude.{◌≡◌, ◌+◌, ◌||◌, ◌<◌, ◌≤◌, ◌↔◌, ℕ, [], length, slice_index_or, MatchOption, IfOk, OnOk, IsTrue};
 ghost use Rattle.cb_lines.specs.declared.line_set.Span.{Span};
 ghost use Rattle.cb_lines.specs.Lines.{has_line, union_of, span_lines, AreMaximal};
-ghost use Rattle.cb_lines.specs.Merging.{BeginsFrom, TakesFirst, last_first};
+ghost use Rattle.cb_lines.specs.inner.Merging.{BeginsFrom, TakesFirst, last_first};
 ghost use Rattle.std.specs.List.{flat_map};
 
 use crate::line_set::Span;
-use crate::runs::Runs;
+use crate::span_list::SpanList;
 use cb_paths::NoMemory;
 use std::alloc::Global;
 
@@ -51,7 +51,7 @@ fn meets(last: Span, next: Span) -> bool
 }
 
 /// Adds a span that begins no earlier than the last one does, and joins the two where they meet.
-fn join(spans: &mut Runs, next: Span) -> Result<(), NoMemory>
+fn join(spans: &mut SpanList, next: Span) -> Result<(), NoMemory>
     requires maximal { AreMaximal spans.old }
     requires rising { last_first spans.old ≤ next.first }
     requires full { next.first ≤ next.last }
@@ -72,13 +72,13 @@ fn join(spans: &mut Runs, next: Span) -> Result<(), NoMemory>
 }
 
 /// The maximal spans of the lines that two lists of them hold.
-pub(crate) fn merged(alloc: Global, left: &[Span], right: &[Span]) -> Result<Runs, NoMemory>
+pub(crate) fn merged(alloc: Global, left: &[Span], right: &[Span]) -> Result<SpanList, NoMemory>
     requires left { AreMaximal left.now }
     requires right { AreMaximal right.now }
     ensures maximal { IfOk result (λ spans. AreMaximal spans) }
     ensures numbers { IfOk result (λ spans. flat_map span_lines spans ≡ union_of (flat_map span_lines left.now) (flat_map span_lines right.now)) }
 {
-    let mut spans = Runs::new(alloc);
+    let mut spans = SpanList::new(alloc);
     let mut pair = Pair { left, right };
     'spans: while let Some(span) = pair.next() {
         join(&mut spans, span)?;

@@ -5,7 +5,7 @@ ghost use Rattle.cb_lines.specs.Lines.{with_line, union_of, span_lines, AreMaxim
 ghost use Rattle.std.specs.List.{flat_map, range_with_len};
 
 use crate::line_set::Span;
-use crate::runs::Runs;
+use crate::span_list::SpanList;
 use cb_paths::NoMemory;
 
 /// How many of rising spans end before a line.
@@ -49,7 +49,7 @@ fn ends_directly_before(spans: &[Span], at: usize, line: u32) -> bool
 
 /// Takes a line into the last of the spans, where that span holds it or ends directly before it, and tells whether it did.
 #[inline]
-fn lengthen(spans: &mut Runs, line: u32) -> bool
+fn lengthen(spans: &mut SpanList, line: u32) -> bool
     requires { AreMaximal spans.old }
     ensures reaches { IsTrue result ↔ ((0 < length spans.old)
         × ((slice_index_or spans.old (length spans.old - 1) (record { first = 0; last = 0 })).first ≤ line)
@@ -85,7 +85,7 @@ fn is_behind(spans: &[Span], line: u32) -> bool
 
 /// Adds a line to maximal spans. A line that the last of them reaches, or that is behind them all, takes no search.
 #[inline]
-pub(crate) fn add_line(spans: &mut Runs, line: u32) -> Result<(), NoMemory>
+pub(crate) fn add_line(spans: &mut SpanList, line: u32) -> Result<(), NoMemory>
     requires { AreMaximal spans.old }
     ensures maximal { AreMaximal spans.new }
     ensures numbers { OnOk result (flat_map span_lines spans.new ≡ with_line line (flat_map span_lines spans.old)) }
@@ -98,7 +98,7 @@ pub(crate) fn add_line(spans: &mut Runs, line: u32) -> Result<(), NoMemory>
 
 /// Lengthens the last of the spans to a line, where it ends with a line no later than that, and tells whether it did.
 #[inline]
-fn lengthen_from(spans: &mut Runs, from: u32, line: u32) -> bool
+fn lengthen_from(spans: &mut SpanList, from: u32, line: u32) -> bool
     requires maximal { AreMaximal spans.old }
     requires rising { from ≤ line }
     ensures maximal { AreMaximal spans.new }
@@ -121,7 +121,7 @@ fn lengthen_from(spans: &mut Runs, from: u32, line: u32) -> bool
 /// Adds the lines behind one up to another to maximal spans, line by line.
 #[inline(never)]
 #[tactic(auto, using(crate::proofs::Stretching::union_range))]
-fn add_lines(spans: &mut Runs, from: u32, line: u32) -> Result<(), NoMemory>
+fn add_lines(spans: &mut SpanList, from: u32, line: u32) -> Result<(), NoMemory>
     requires maximal { AreMaximal spans.old }
     requires rising { from ≤ line }
     ensures maximal { AreMaximal spans.new }
@@ -135,7 +135,7 @@ fn add_lines(spans: &mut Runs, from: u32, line: u32) -> Result<(), NoMemory>
 
 /// Adds the lines of a span to maximal spans, at once where no line behind its first one is held or passed.
 #[inline]
-pub(crate) fn add_span(spans: &mut Runs, span: Span) -> Result<(), NoMemory>
+pub(crate) fn add_span(spans: &mut SpanList, span: Span) -> Result<(), NoMemory>
     requires { AreMaximal spans.old }
     ensures maximal { AreMaximal spans.new }
     ensures numbers { OnOk result (flat_map span_lines spans.new ≡ union_of (span_lines span) (flat_map span_lines spans.old)) }
@@ -153,7 +153,7 @@ pub(crate) fn add_span(spans: &mut Runs, span: Span) -> Result<(), NoMemory>
 
 /// Adds a line to maximal spans, the last of which does not reach it. It stays out of the way of the calls that lengthen that one.
 #[inline(never)]
-fn add_apart(spans: &mut Runs, line: u32) -> Result<(), NoMemory>
+fn add_apart(spans: &mut SpanList, line: u32) -> Result<(), NoMemory>
     requires { AreMaximal spans.old }
     ensures maximal { AreMaximal spans.new }
     ensures numbers { OnOk result (flat_map span_lines spans.new ≡ with_line line (flat_map span_lines spans.old)) }
@@ -170,7 +170,7 @@ fn add_apart(spans: &mut Runs, line: u32) -> Result<(), NoMemory>
 }
 
 /// Adds a line to maximal spans, at the place that a search finds.
-fn insert_line(spans: &mut Runs, line: u32) -> Result<(), NoMemory>
+fn insert_line(spans: &mut SpanList, line: u32) -> Result<(), NoMemory>
     requires { AreMaximal spans.old }
     ensures maximal { AreMaximal spans.new }
     ensures numbers { OnOk result (flat_map span_lines spans.new ≡ with_line line (flat_map span_lines spans.old)) }

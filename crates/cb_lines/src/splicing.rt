@@ -1,6 +1,6 @@
 //! From a source to its marks.
 ghost use Rattle.std.specs.Prelude.{◌≡◌, ◌||◌, ◌<◌, ◌≤◌, ◌+◌, ◌-◌, ◌^◌, ℕ, true, false, min, if◌then◌else◌, length, IfOk};
-ghost use Rattle.cb_lines.specs.Held.{is_special};
+ghost use Rattle.cb_lines.specs.inner.Held.{is_special};
 ghost use Rattle.cb_lines.specs.Marks.{marks_of, byte_at, begins_line_end, is_line_return, is_splice, is_deleted, is_line_feed};
 
 use crate::lanes::candidates;
@@ -151,7 +151,7 @@ fn behind_line_end(source: &[u8], at: usize) -> usize
 }
 
 /// The marks of a source: its bytes without splices and without the CR of each line end, with their lines. A source without
-/// either is lent and not copied. Its one error is want of memory.
+/// either is lent and not copied. Its one error is out of memory.
 pub fn marks(alloc: Global, source: &[u8]) -> Result<Marks<'_>, NoMemory>
     ensures { IfOk result (λ m. m ≡ marks_of source.now) }
 {
@@ -164,14 +164,14 @@ pub fn marks(alloc: Global, source: &[u8]) -> Result<Marks<'_>, NoMemory>
     copied_marks(alloc, source)
 }
 
-/// The marks of a source, copied run by run.
+/// The marks of a source, copied piece by piece.
 fn copied_marks(alloc: Global, source: &[u8]) -> Result<Marks<'_>, NoMemory>
     ensures { IfOk result (λ m. m ≡ marks_of source.now) }
 {
     let mut bytes = Vec::with_capacity(alloc, source.len())?;
     let mut splices = Vec::new(alloc);
     let mut at = 0;
-    'runs: while at < source.len() {
+    'pieces: while at < source.len() {
         let end = cut_from(source, at);
         bytes.extend_from_slice(&source[at..end])?;
         if end == source.len() {

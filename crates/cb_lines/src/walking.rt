@@ -1,6 +1,6 @@
 //! A walk over the marks of a source.
-ghost use Rattle.std.specs.Prelude.{◌≡◌, ◌+◌, ◌-◌, ◌^◌, ◌<◌, ◌≤◌, ◌↔◌, ℕ, false, List, length, slice_index, take, drop, min, if◌then◌else◌, OnOk, IsTrue};
-ghost use Rattle.cb_lines.specs.Held.{marks_held, feeds, Rises};
+ghost use Rattle.std.specs.Prelude.{◌≡◌, ◌≢◌, ◌+◌, ◌-◌, ◌^◌, ◌<◌, ◌≤◌, ◌↔◌, ℕ, false, List, length, slice_index, take, drop, min, if◌then◌else◌, OnOk, IsTrue};
+ghost use Rattle.cb_lines.specs.inner.Held.{marks_held, feeds, passed, Rises};
 ghost use Rattle.cb_lines.specs.Marks.{bytes_of, first_line, is_line_feed};
 ghost use Rattle.cb_lines.specs.Lines.{with_line, with_lines, StandOn};
 
@@ -28,7 +28,7 @@ impl<'a> Model for Walk<'a> {
 
     ghost Value = { List Mark };
 
-    ghost use Rattle.cb_lines.specs.Held.{marks_held, Rises};
+    ghost use Rattle.cb_lines.specs.inner.Held.{marks_held, Rises};
 
     ghost view = { λ w. marks_held w.line w.at w.bytes.now w.splices.now };
 
@@ -79,13 +79,16 @@ impl<'a> Walk<'a> {
     }
 
     /// The bytes of the marks that are left before the next splice: at least one, if a mark is left. Those up to the first LF,
-    /// this among them, stand on the line of the first one.
+    /// this among them, stand on the line of the first one. A mark that is left behind them stands at least a line further than
+    /// their last byte leads to, or on the last line that has a number.
     pub fn row(&self) -> &'a [u8]
         ensures some { 0 < length self.now → 0 < length result.now }
         ensures within { length result.now ≤ length self.now }
         ensures front { result.now ≡ take (length result.now) (bytes_of self.now) }
         ensures one_line { (count : ℕ) → count ≤ length result.now → ((k : ℕ) → k + 1 < count → is_line_feed (slice_index result.now k) ≡ false)
             → StandOn (first_line self.now) (take count self.now) }
+        ensures whole { (count : ℕ) → length result.now ≡ count + 1 → count + 1 < length self.now
+            → min (2 ^ 32 - 1) (first_line (drop count self.now) + (if is_line_feed (slice_index result.now count) then 1 else 0) + 1) ≤ first_line (drop (count + 1) self.now) }
     {
         let len = self.bytes.len();
         if len == 0 {
@@ -111,7 +114,7 @@ impl<'a> Walk<'a> {
         self.line = line;
     }
 
-    /// Goes past marks and adds their lines to a set. Its one error is want of memory, after which both may be used on, and
+    /// Goes past marks and adds their lines to a set. Its one error is out of memory, after which both may be used on, and
     /// no more is said of them.
     pub fn pass_counted(&mut self, count: usize, lines: &mut Lines) -> Result<(), NoMemory>
         requires { count ≤ length self.old }
@@ -129,7 +132,7 @@ impl<'a> Walk<'a> {
     }
 
     /// Goes past marks of which none but the last is an LF, and adds their lines to a set, with a look at splices alone. Its one
-    /// error is want of memory, after which both may be used on, and no more is said of them.
+    /// error is out of memory, after which both may be used on, and no more is said of them.
     pub fn pass_row_counted(&mut self, count: usize, lines: &mut Lines) -> Result<(), NoMemory>
         requires within { count ≤ length self.old }
         requires plain { (k : ℕ) → k + 1 < count → is_line_feed (slice_index (bytes_of self.old) k) ≡ false }
@@ -230,6 +233,7 @@ fn marks_to_splice(splices: &[usize], at: usize, most: usize) -> usize
     requires full { 0 < most }
     ensures within { (0 < result) × (result ≤ most) }
     ensures before { Rises (at + result) splices.now }
+    ensures whole { result < most → passed (at + result) splices.now ≢ 0 }
 {
     if splices.is_empty() {
         return most;

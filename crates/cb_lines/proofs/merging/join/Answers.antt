@@ -2,7 +2,7 @@ use Rattle.std.proofs.Common.{◌≡◌, ℕ, ◌+◌, ◌-◌, ◌<◌, ◌≤�
 use Rattle.std.proofs.lemmas.Bool.{false≢true, cases_lt}
 use Rattle.cb_lines.specs.declared.line_set.Span.{Span}
 use Rattle.cb_lines.specs.Lines.{AreMaximal}
-use Rattle.cb_lines.specs.Merging.{last_first}
+use Rattle.cb_lines.specs.inner.Merging.{last_first}
 use Rattle.cb_lines.proofs.Adding.{none}
 use Rattle.cb_lines.proofs.SpanLists.{bound}
 use Rattle.cb_lines.proofs.Written.{read_at, joins_as}

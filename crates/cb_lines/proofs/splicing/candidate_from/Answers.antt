@@ -2,7 +2,7 @@ use Rattle.std.proofs.Common.{◌≡◌, ◌+◌, ◌-◌, ◌<◌, ◌≤◌, �
 use Rattle.std.specs.Int.{bit_at}
 use Rattle.std.proofs.lemmas.Bool.{cases_lt}
 use Rattle.std.proofs.lemmas.Nat.Bits.{bit_at-zero}
-use Rattle.cb_lines.specs.Held.{is_special, is_ending}
+use Rattle.cb_lines.specs.inner.Held.{is_special, is_ending}
 use Rattle.cb_lines.specs.Marks.{byte_at, is_line_return, is_splice}
 use Rattle.cb_lines.proofs.Candidates.{no_cut}
 use Rattle.cb_lines.proofs.splicing.candidate_from.Goals as goal

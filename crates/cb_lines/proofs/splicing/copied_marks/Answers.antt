@@ -11,27 +11,27 @@ run source at end bytes new ss e within plain kept =
 
 pub returns-then-end-source : goal.returns-then-end-source
 returns-then-end-source c =
-    let kept = run c.args.source.now c.runs.at c.cut_from-end.result c.runs.bytes.items c.extend_from_slice.new.self.items c.runs.splices.items c.in_ok-extend_from_slice.ensures.items c.cut_from-end.ensures.within c.cut_from-end.ensures.stays c.runs.invariant.kept in
-    kept_all c.args.source.now c.cut_from-end.result c.extend_from_slice.new.self.items c.runs.splices.items (omega arith) kept
+    let kept = run c.args.source.now c.pieces.at c.cut_from-end.result c.pieces.bytes.items c.extend_from_slice.new.self.items c.pieces.splices.items c.in_ok-extend_from_slice.ensures.items c.cut_from-end.ensures.within c.cut_from-end.ensures.stays c.pieces.invariant.kept in
+    kept_all c.args.source.now c.cut_from-end.result c.extend_from_slice.new.self.items c.pieces.splices.items (omega arith) kept
 
-pub runs-preserved-then-is_return_of_line_end : goal.runs-preserved-then-is_return_of_line_end
-runs-preserved-then-is_return_of_line_end c =
+pub pieces-preserved-then-is_return_of_line_end : goal.pieces-preserved-then-is_return_of_line_end
+pieces-preserved-then-is_return_of_line_end c =
     let end : ℕ = c.cut_from-end.result in
-    let kept = run c.args.source.now c.runs.at end c.runs.bytes.items c.extend_from_slice.new.self.items c.runs.splices.items c.in_ok-extend_from_slice.ensures.items c.cut_from-end.ensures.within c.cut_from-end.ensures.stays c.runs.invariant.kept in
+    let kept = run c.args.source.now c.pieces.at end c.pieces.bytes.items c.extend_from_slice.new.self.items c.pieces.splices.items c.in_ok-extend_from_slice.ensures.items c.cut_from-end.ensures.within c.cut_from-end.ensures.stays c.pieces.invariant.kept in
     let l : end < length c.args.source.now = omega (arith, c.cut_from-end.ensures.within.1) in
     record {
       within = omega arith;
-      kept = kept_return c.args.source.now end c.extend_from_slice.new.self.items c.runs.splices.items l (sym c.if-is_return_of_line_end.ensures) kept;
+      kept = kept_return c.args.source.now end c.extend_from_slice.new.self.items c.pieces.splices.items l (sym c.if-is_return_of_line_end.ensures) kept;
     }
 
-pub runs-preserved : goal.runs-preserved
-runs-preserved c =
+pub pieces-preserved : goal.pieces-preserved
+pieces-preserved c =
     let end : ℕ = c.cut_from-end.result in
     let bytes : List ℕ = c.extend_from_slice.new.self.items in
-    let kept = run c.args.source.now c.runs.at end c.runs.bytes.items bytes c.runs.splices.items c.in_ok-extend_from_slice.ensures.items c.cut_from-end.ensures.within c.cut_from-end.ensures.stays c.runs.invariant.kept in
+    let kept = run c.args.source.now c.pieces.at end c.pieces.bytes.items bytes c.pieces.splices.items c.in_ok-extend_from_slice.ensures.items c.cut_from-end.ensures.within c.cut_from-end.ensures.stays c.pieces.invariant.kept in
     let len : c.len.result ≡ length bytes = omega (arith, c.extend_from_slice.new.self.ok) in
-    let behind = kept_splice c.args.source.now end c.behind_line_end-at.result bytes c.runs.splices.items (c.cut_from-end.ensures.cut (omega (arith, c.cut_from-end.ensures.within.1)) (sym c.if-is_return_of_line_end.ensures)) c.behind_line_end-at.ensures kept in
-    let splices : c.push.new.self.items ≡ c.runs.splices.items ++ length bytes ∷ [] = c.in_ok-push.ensures.items ∙ ap (λ (n : ℕ). c.runs.splices.items ++ n ∷ []) len in
+    let behind = kept_splice c.args.source.now end c.behind_line_end-at.result bytes c.pieces.splices.items (c.cut_from-end.ensures.cut (omega (arith, c.cut_from-end.ensures.within.1)) (sym c.if-is_return_of_line_end.ensures)) c.behind_line_end-at.ensures kept in
+    let splices : c.push.new.self.items ≡ c.pieces.splices.items ++ length bytes ∷ [] = c.in_ok-push.ensures.items ∙ ap (λ (n : ℕ). c.pieces.splices.items ++ n ∷ []) len in
     record {
       within = behind.within;
       kept = subst (λ (ss : List ℕ). Kept c.args.source.now c.behind_line_end-at.result bytes ss) (sym splices) behind.kept;

@@ -1,7 +1,7 @@
 use Rattle.std.proofs.Common.{◌≡◌, ◌+◌, ◌-◌, ◌≤◌, ℕ, true, false, List, length, take, drop, get_or, sym, ap, ◌∙◌, arith, length-drop}
 use Rattle.std.proofs.lemmas.Bool.{false_from_ne_true}
 use Rattle.std.proofs.lemmas.List.{get_or-drop, take_rest}
-use Rattle.cb_lines.specs.Held.{is_special}
+use Rattle.cb_lines.specs.inner.Held.{is_special}
 use Rattle.cb_lines.proofs.splicing.special_from.Goals as goal
 
 -- a byte of the rest of a source, at its place in the whole

@@ -1,5 +1,5 @@
 use Rattle.std.proofs.Common.{◌≡◌, ◌+◌, ◌-◌, ◌^◌, min, take}
-use Rattle.cb_lines.specs.Held.{feeds}
+use Rattle.cb_lines.specs.inner.Held.{feeds}
 use Rattle.cb_lines.proofs.walking.line_behind_all.Given as goal
 
 abbrev pub invariant-loop-byte : goal.invariant-loop-byte

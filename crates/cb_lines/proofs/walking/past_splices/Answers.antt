@@ -1,7 +1,7 @@
 use Rattle.std.proofs.Common.{◌≡◌, ◌+◌, ◌-◌, ◌^◌, ℕ, min, drop, refl, ap, ◌∙◌, arith}
 use Rattle.std.proofs.lemmas.Bool.{false≢true}
 use Rattle.std.proofs.lemmas.List.{take_rest}
-use Rattle.cb_lines.specs.Held.{marks_held}
+use Rattle.cb_lines.specs.inner.Held.{marks_held}
 use Rattle.cb_lines.proofs.Holding.{Rises-behind, past_more}
 use Rattle.cb_lines.proofs.walking.past_splices.Goals as goal
 

@@ -1,5 +1,5 @@
 use Rattle.std.proofs.Common.{◌≡◌, ◌-◌, ◌≤◌, List, ℕ, length, drop}
-use Rattle.cb_lines.specs.Held.{marks_held}
+use Rattle.cb_lines.specs.inner.Held.{marks_held}
 use Rattle.cb_lines.proofs.walking.past_splices.Given as goal
 
 abbrev pub invariant-splices : goal.invariant-splices

@@ -1,6 +1,6 @@
 use Rattle.std.proofs.Common.{◌≡◌, ◌+◌, ◌-◌, ◌^◌, ℕ, List, min, length, take, drop, ap, ◌∙◌, arith, length-drop}
 use Rattle.cb_lines.specs.declared.mark.Mark.{Mark}
-use Rattle.cb_lines.specs.Held.{feeds, marks_held}
+use Rattle.cb_lines.specs.inner.Held.{feeds, marks_held}
 use Rattle.cb_lines.proofs.Holding.{held-length, held-behind, Rises-weaker}
 use Rattle.cb_lines.proofs.walking.Walk.pass.Goals as goal
 

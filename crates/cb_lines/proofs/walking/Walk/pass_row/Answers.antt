@@ -1,7 +1,7 @@
 use Rattle.std.proofs.Common.{◌≡◌, ◌+◌, ◌-◌, ◌^◌, ◌<◌, ℕ, List, min, length, take, drop, get_or, sym, ap, ◌∙◌, arith, suc, length-drop}
 use Rattle.cb_lines.specs.declared.mark.Mark.{Mark}
 use Rattle.cb_lines.specs.Marks.{bytes_of, is_line_feed}
-use Rattle.cb_lines.specs.Held.{feeds, marks_held}
+use Rattle.cb_lines.specs.inner.Held.{feeds, marks_held}
 use Rattle.cb_lines.proofs.Holding.{held-bytes, held-length, held-behind, feed, feeds_last, Rises-weaker}
 use Rattle.cb_lines.proofs.walking.Walk.pass_row.Goals as goal
 

@@ -2,7 +2,7 @@ use Rattle.std.proofs.Common.{◌≡◌, ◌^◌, ◌<◌, ◌≤◌, ℕ, List,
 use Rattle.cb_lines.specs.declared.mark.Mark.{Mark}
 use Rattle.cb_lines.specs.Lines.{with_line, with_lines}
 use Rattle.cb_lines.specs.Marks.{bytes_of, first_line, is_line_feed}
-use Rattle.cb_lines.specs.Held.{marks_held}
+use Rattle.cb_lines.specs.inner.Held.{marks_held}
 use Rattle.cb_lines.proofs.Holding.{held-bytes, held-length, held-first, one_line}
 use Rattle.cb_lines.proofs.walking.Walk.plain_row_len.Goals as goal
 

@@ -1,0 +1,4 @@
+-- What private clauses alone cite.
+pub mod Held
+pub mod Merging
+pub mod SpanList
