@@ -1,0 +1,240 @@
+//! Sets of lines, worked by hand.
+use cb_lines::{Lines, Span};
+use cb_paths::NoMemory;
+use std::alloc::Global;
+use std::test::Fail;
+
+fn is_shared<T: Send + Sync>() {}
+
+const MAX: u32 = u32::MAX;
+
+/// The set of these lines, added in this order.
+fn set_of(alloc: Global, added: &[u32]) -> Result<Lines, NoMemory> {
+    let mut lines = Lines::new(alloc);
+    for line in added {
+        lines.add(*line)?;
+    }
+    Ok(lines)
+}
+
+/// Whether the maximal runs of a set are these, in pairs of first and last line.
+fn has_spans(lines: &Lines, wanted: &[(u32, u32)]) -> bool {
+    let spans = lines.spans();
+    if spans.len() != wanted.len() {
+        return false;
+    }
+    for (span, (first, last)) in spans.iter().zip(wanted) {
+        if span.first != *first || span.last != *last {
+            return false;
+        }
+    }
+    true
+}
+
+/// Whether a copy of the set of these lines has these spans and so many lines.
+fn is_made(
+    alloc: Global,
+    added: &[u32],
+    spans: &[(u32, u32)],
+    count: u64,
+) -> Result<bool, NoMemory> {
+    let lines = set_of(alloc, added)?.copy(alloc)?;
+    Ok(has_spans(&lines, spans) && lines.count() == count)
+}
+
+#[test]
+fn added_lines_make_maximal_spans(rt: HostRuntime) -> Result<(), Fail> {
+    is_shared::<Lines>();
+    for (added, spans, count) in [
+        ([].as_slice(), [].as_slice(), 0),
+        ([7, 7, 7].as_slice(), [(7, 7)].as_slice(), 1),
+        ([1, 3, 2].as_slice(), [(1, 3)].as_slice(), 3),
+        ([9, 2, 3].as_slice(), [(2, 3), (9, 9)].as_slice(), 3),
+        ([5, 4, 8].as_slice(), [(4, 5), (8, 8)].as_slice(), 3),
+        (
+            [100, 99, 12, 11, 10, 98].as_slice(),
+            [(10, 12), (98, 100)].as_slice(),
+            6,
+        ),
+        (
+            [MAX, 0, MAX - 1].as_slice(),
+            [(0, 0), (MAX - 1, MAX)].as_slice(),
+            3,
+        ),
+    ] {
+        assert!(rt;
+            is_made(rt.alloc(), added, spans, count)?,
+            "lines {added:?}"
+        );
+    }
+    Ok(())
+}
+
+/// The set of the lines of spans, added in this order.
+fn spans_of(alloc: Global, added: &[(u32, u32)]) -> Result<Lines, NoMemory> {
+    let mut lines = Lines::new(alloc);
+    for (first, last) in added {
+        lines.add_span(Span {
+            first: *first,
+            last: *last,
+        })?;
+    }
+    Ok(lines)
+}
+
+/// What two sets, given by their spans, make.
+#[derive(Clone, Copy, Debug)]
+enum Way {
+    Union,
+    Minus,
+    Appended,
+}
+
+fn made(
+    alloc: Global,
+    way: Way,
+    some: &[(u32, u32)],
+    others: &[(u32, u32)],
+) -> Result<Lines, NoMemory> {
+    let mut lines = spans_of(alloc, some)?;
+    let others = spans_of(alloc, others)?;
+    match way {
+        Way::Union => lines.union(alloc, &others),
+        Way::Minus => lines.minus(alloc, &others),
+        Way::Appended => {
+            lines.append(&others)?;
+            Ok(lines)
+        }
+    }
+}
+
+fn makes(
+    alloc: Global,
+    way: Way,
+    some: &[(u32, u32)],
+    others: &[(u32, u32)],
+    wanted: &[(u32, u32)],
+) -> Result<bool, NoMemory> {
+    Ok(has_spans(&made(alloc, way, some, others)?, wanted))
+}
+
+#[test]
+fn two_sets_make_one(rt: HostRuntime) -> Result<(), Fail> {
+    for (way, some, others, wanted) in [
+        (
+            Way::Union,
+            [(1, 1), (3, 3)].as_slice(),
+            [(2, 2)].as_slice(),
+            [(1, 3)].as_slice(),
+        ),
+        (
+            Way::Union,
+            [(2, 2), (5, 5), (9, 9)].as_slice(),
+            [(1, 1), (3, 3)].as_slice(),
+            [(1, 3), (5, 5), (9, 9)].as_slice(),
+        ),
+        (
+            Way::Union,
+            [].as_slice(),
+            [(9, 9)].as_slice(),
+            [(9, 9)].as_slice(),
+        ),
+        (
+            Way::Minus,
+            [(1, 9)].as_slice(),
+            [(2, 3), (6, 6)].as_slice(),
+            [(1, 1), (4, 5), (7, 9)].as_slice(),
+        ),
+        (
+            Way::Minus,
+            [(1, 4), (10, 19)].as_slice(),
+            [(3, 12), (19, 40)].as_slice(),
+            [(1, 2), (13, 18)].as_slice(),
+        ),
+        (
+            Way::Minus,
+            [(5, 5)].as_slice(),
+            [].as_slice(),
+            [(5, 5)].as_slice(),
+        ),
+        (
+            Way::Minus,
+            [(7, MAX)].as_slice(),
+            [(8, MAX - 1)].as_slice(),
+            [(7, 7), (MAX, MAX)].as_slice(),
+        ),
+        (
+            Way::Minus,
+            [(3, 4)].as_slice(),
+            [(1, 9)].as_slice(),
+            [].as_slice(),
+        ),
+        (
+            Way::Appended,
+            [(2, 3)].as_slice(),
+            [(4, 6), (8, 8)].as_slice(),
+            [(2, 6), (8, 8)].as_slice(),
+        ),
+        (
+            Way::Appended,
+            [].as_slice(),
+            [(4, 6), (MAX, MAX)].as_slice(),
+            [(4, 6), (MAX, MAX)].as_slice(),
+        ),
+        (
+            Way::Appended,
+            [(5, 6)].as_slice(),
+            [(1, 1)].as_slice(),
+            [(1, 1), (5, 6)].as_slice(),
+        ),
+    ] {
+        assert!(rt;
+            makes(rt.alloc(), way, some, others, wanted)?,
+            "{way:?} of {some:?} and {others:?}"
+        );
+    }
+    Ok(())
+}
+
+#[test]
+fn spans_are_added_at_once_or_line_by_line(rt: HostRuntime) -> Result<(), Fail> {
+    let added = [(7, 9), (9, 12), (2, 8), (20, 20), (5, 4)];
+    assert!(rt; has_spans(&spans_of(rt.alloc(), &added)?, &[(2, 12), (20, 20)]));
+    Ok(())
+}
+
+/// How far a set, given by its spans, goes on as it begins at a line.
+fn goes_on(
+    alloc: Global,
+    spans: &[(u32, u32)],
+    first: u32,
+    last: u32,
+) -> Result<(bool, bool, u32), NoMemory> {
+    let lines = spans_of(alloc, spans)?;
+    if first > last {
+        return Ok((false, false, 0));
+    }
+    let stretch = lines.alike_from(first, last);
+    Ok((lines.has(first), stretch.is_held, stretch.last))
+}
+
+#[test]
+fn sets_go_on_as_they_begin(rt: HostRuntime) -> Result<(), Fail> {
+    let spans = [(3, 5), (9, 9), (20, MAX)];
+    for (first, last, is_held, end) in [
+        (1, 50, false, 2),
+        (3, 50, true, 5),
+        (4, 4, true, 4),
+        (6, 50, false, 8),
+        (6, 7, false, 7),
+        (9, 10, true, 9),
+        (10, 19, false, 19),
+        (21, MAX, true, MAX),
+    ] {
+        assert!(rt;
+            goes_on(rt.alloc(), &spans, first, last)? == (is_held, is_held, end),
+            "from {first} to {last}"
+        );
+    }
+    Ok(())
+}
