@@ -1,5 +1,5 @@
 -- Lines from one on that maximal spans hold together, or lack together.
-use Rattle.std.proofs.Common.{◌≡◌, ℕ, ◌+◌, ◌<◌, ◌≤◌, Bool, true, false, IsTrue, ◌↔◌, List, length, get_or, refl, sym, ap, ◌∙◌, subst, arith}
+use Rattle.std.proofs.Common.{◌≡◌, ℕ, ◌+◌, ◌<◌, ◌≤◌, Bool, true, false, IsTrue, ◌↔◌, List, length, get_or, refl, sym, ◌∙◌, subst, arith}
 use Rattle.std.proofs.lemmas.Bool.{false≢true}
 use Rattle.std.proofs.lemmas.List.{get_or_default}
 use Rattle.cb_lines.specs.declared.line_set.Span.{Span}
@@ -25,10 +25,10 @@ at_span ss p line s b maximal at before ends test =
     let one : get_or ss p none ≡ s = get_or_default ss p none s at.within ∙ sym at.is in
     has_at ss p line b maximal before
     (λ k d pk kl.
-        let here : get_or ss p d ≡ s = get_or_default ss p d s at.within ∙ sym at.is in
-        let far : (get_or ss p d).last ≤ (get_or ss k d).last = lasts_rise ss maximal p k d pk kl in
-        let far : s.last ≤ (get_or ss k d).last = subst (λ (x : Span). x.last ≤ (get_or ss k d).last) here far in
-        omega arith)
+    let here : get_or ss p d ≡ s = get_or_default ss p d s at.within ∙ sym at.is in
+    let far : (get_or ss p d).last ≤ (get_or ss k d).last = lasts_rise ss maximal p k d pk kl in
+    let far : s.last ≤ (get_or ss k d).last = subst (λ (x : Span). x.last ≤ (get_or ss k d).last) here far in
+    omega arith)
     (λ h. (at.within, subst (λ (x : Span). x.first ≤ line) (sym one) (test.0 h)), λ h. test.1 (subst (λ (x : Span). x.first ≤ line) one h.1))
 
 full : (ss : List Span) (p : ℕ) (s : Span) → AreMaximal ss → Stands ss p s → s.first ≤ s.last
@@ -57,17 +57,19 @@ held_ends first ss p s at stands =
     subst (λ (x : Span). x.last + 1 < (get_or ss k d).first) here gap in
     sym (has_at ss (p + 1) (s.last + 1) false at.maximal
     (λ k d kp.
-        let here : s ≡ get_or ss p d = stands.is ∙ get_or_default ss p s d stands.within in
-        let last : s.last < s.last + 1 = omega arith in
-        all_before ss at.maximal (s.last + 1) p d stands.within (subst (λ (x : Span). x.last < s.last + 1) here last) k d kp)
+    let here : s ≡ get_or ss p d = stands.is ∙ get_or_default ss p s d stands.within in
+    let last : s.last < s.last + 1 = omega arith in
+    all_before ss at.maximal (s.last + 1) p d stands.within (subst (λ (x : Span). x.last < s.last + 1) here last) k d kp)
     (λ k d pk kl.
-        let gap : s.last + 1 < (get_or ss k d).first = apart k d (omega arith) kl in
-        let ends : (get_or ss k d).first ≤ (get_or ss k d).last = ends_behind 0 ss h k d kl in
-        omega arith)
-    (λ f. absurd (false≢true f), λ w.
-        let gap : s.last + 1 < (get_or ss (p + 1) none).first = apart (p + 1) none (omega arith) w.0 in
-        let begins : (get_or ss (p + 1) none).first ≤ s.last + 1 = w.1 in
-        absurd (omega arith)))
+    let gap : s.last + 1 < (get_or ss k d).first = apart k d (omega arith) kl in
+    let ends : (get_or ss k d).first ≤ (get_or ss k d).last = ends_behind 0 ss h k d kl in
+    omega arith) (
+      λ f. absurd (false≢true f),
+      λ w.
+          let gap : s.last + 1 < (get_or ss (p + 1) none).first = apart (p + 1) none (omega arith) w.0 in
+          let begins : (get_or ss (p + 1) none).first ≤ s.last + 1 = w.1 in
+          absurd (omega arith),
+    ))
 
 -- before a span
 pub gap_alike : (first : ℕ) (ss : List Span) (p : ℕ) (s : Span) → Reached first ss p → Stands ss p s → (line : ℕ) → first ≤ line → line < s.first → has_line (lines ss) line ≡ false

@@ -15,7 +15,7 @@ mod splicing;
 mod walking;
 
 pub use alike::Stretch;
-pub use laws::one_line;
+pub use laws::{one_line, rising_sets};
 pub use line_set::{Lines, Span};
 pub use mark::{Mark, Marks};
 pub use reading::Marker;

@@ -1,4 +1,4 @@
-use Rattle.std.proofs.Common.{◌≡◌, ◌+◌, ◌-◌, ◌≤◌, ℕ, ◌||◌, ◌&&◌, not}
+use Rattle.std.proofs.Common.{◌≡◌, ◌-◌, ◌≤◌, ℕ, ◌||◌, ◌&&◌, not}
 use Rattle.std.specs.List.{range_with_len}
 use Rattle.cb_lines.specs.Lines.{has_line}
 use Rattle.cb_lines.proofs.lacking.add_lacking.Given as goal

@@ -1,4 +1,4 @@
-use Rattle.std.proofs.Common.{◌≡◌, ◌&&◌, not, List, ℕ, length, get_or, take, sym, ap, ◌∙◌, arith}
+use Rattle.std.proofs.Common.{◌&&◌, not, List, ℕ, ap, ◌∙◌, arith}
 use Rattle.std.proofs.lemmas.List.{take_all}
 use Rattle.std.specs.List.{flat_map}
 use Rattle.cb_lines.specs.declared.line_set.Span.{Span}
@@ -18,6 +18,6 @@ pub returns-clause-lines : goal.returns-clause-lines
 returns-clause-lines c =
     let ss : List Span = c.spans-span-items.result.now in
     lacking_all c.args.self.now c.args.other.now c.spans.rest c.spans-span-items.ensures.rising c.rises.ensures (λ line.
-        c.spans.invariant line
-        ∙ ap (λ (xs : List ℕ). has_line xs line && not (has_line c.args.other.now line))
-        (ap (λ (xs : List Span). flat_map span_lines xs) (take_all c.spans.span-index ss (omega arith)) ∙ c.spans-span-items.ensures.lines))
+    c.spans.invariant line
+    ∙ ap (λ (xs : List ℕ). has_line xs line && not (has_line c.args.other.now line))
+    (ap (λ (xs : List Span). flat_map span_lines xs) (take_all c.spans.span-index ss (omega arith)) ∙ c.spans-span-items.ensures.lines))
