@@ -1,0 +1,6 @@
+pub mod Bits
+pub mod Held
+pub mod Orders
+pub mod Placed
+pub mod Tallied
+pub mod Users

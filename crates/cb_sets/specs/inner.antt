@@ -1,0 +1,4 @@
+-- What private clauses alone cite.
+pub mod Ranks
+pub mod Rows
+pub mod Tests
