@@ -1,7 +1,7 @@
 -- Distances of platforms.
 use Rattle.std.specs.Prelude.{ℕ, ◌*◌, Bool, nat_lt, List, length, sum_by}
 use Rattle.cb_diverge.specs.declared.fraction.Fraction.{Fraction}
-use Rattle.cb_diverge.specs.Grid.{share, mean}
+use Rattle.cb_paths.specs.Grid.{share, mean}
 
 -- a fraction on the grid (own)
 abbrev pub grid_of : Fraction → ℕ

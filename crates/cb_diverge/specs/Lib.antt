@@ -1,3 +1,2 @@
 pub mod Proper
-pub mod Grid
 pub mod Distances

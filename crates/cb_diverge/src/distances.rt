@@ -3,9 +3,7 @@ ghost use Rattle.std.specs.Prelude.{◌≡◌, ◌-◌, ◌^◌, ◌<◌, ◌≤
 ghost use Rattle.cb_diverge.specs.Distances.{grid_of, is_less, divergence_of};
 
 use crate::fraction::Fraction;
-
-/// The steps of one on the grid.
-const UNITS: u128 = 1_000_000_000_000;
+use cb_paths::share;
 
 /// The Jaccard distance of two platforms, from the number of lines that both use and of those that at least one of them uses:
 /// the share of the lines that only one of them uses. Without a line it is 0 over 1.
@@ -29,7 +27,7 @@ pub fn grid(f: Fraction) -> u64
     ensures value { result ≡ grid_of f }
     ensures within { result ≤ 1000000000000 }
 {
-    ((u128::from(f.n) * UNITS + u128::from(f.d) / 2) / u128::from(f.d)) as u64
+    share(f.n, f.d)
 }
 
 /// Whether a fraction is less than another one, by their exact values.

@@ -1,0 +1,7 @@
+pub mod Orders
+pub mod Nearest
+pub mod Joins
+pub mod Listed
+pub mod Fewer
+pub mod Linked
+pub mod Unique

@@ -1,0 +1,5 @@
+pub mod Links
+pub mod Names
+pub mod Merging
+pub mod Chains
+pub mod Ranking
