@@ -21,3 +21,5 @@ pub mod Masks
 pub mod MarksLeft
 pub mod Decided
 pub mod OneToken
+pub mod KindsOfBytes
+pub mod SomeCut

@@ -42,7 +42,7 @@ no_comment Str b bs h o = no_slash Str b bs h o (λ e. absurd (cc))
 no_comment Other b bs h o = no_slash Other b bs h o (λ e. absurd (cc))
 
 -- no token begins as a comment
-opens_as : (k : TokenKind) (l : List ℕ) → fits (Token k) l ≡ true → is_open_comment l ≡ false
+pub opens_as : (k : TokenKind) (l : List ℕ) → fits (Token k) l ≡ true → is_open_comment l ≡ false
 unfolding is_open_comment
 opens_as k [] h = absurd (both_ways (fits (Token k) []) (no_piece (Token k)) h)
 opens_as k (b ∷ bs) h =
@@ -82,7 +82,7 @@ pub one_token : (ms : List Mark) (r : Option TokenKind) → IsDecided (bytes_of 
 one_token ms None d = tt
 one_token ms (Some k) d = from_fits ms k d
 
-same_kind : (k j : TokenKind) → Token k ≡ Token j → k ≡ j
+pub same_kind : (k j : TokenKind) → Token k ≡ Token j → k ≡ j
 same_kind k j e = cc
 
 pub only_token : (ms : List Mark) (r : Option TokenKind) → IsDecided (bytes_of ms) r → (k : TokenKind) → IsOneToken ms k → r ≡ Some k

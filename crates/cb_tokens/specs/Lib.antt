@@ -1,4 +1,5 @@
 pub mod Forms
+pub mod Kinds
 pub mod Cut
 pub mod Logical
 pub mod Classes

@@ -19,11 +19,12 @@ mod table;
 #[cfg(test)]
 mod tests;
 mod token;
+mod token_list;
 mod whole;
 
 pub use fault::LexFault;
 pub use first::{First, first_piece};
-pub use laws::one_cut;
+pub use laws::{one_cut, some_cut};
 pub use lexed::Lexed;
 pub use lexing::tokens;
 pub use plain::{
@@ -31,4 +32,5 @@ pub use plain::{
     white_front,
 };
 pub use token::{PieceKind, Token, TokenKind};
-pub use whole::one_token;
+pub use token_list::Tokens;
+pub use whole::{one_token, token_kind};

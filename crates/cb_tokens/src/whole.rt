@@ -4,13 +4,14 @@ ghost use Rattle.std.specs.List.{list_all};
 ghost use Rattle.cb_lines.specs.Marks.{marks_of, bytes_of};
 ghost use Rattle.cb_tokens.specs.Classes.{BeginsIn};
 ghost use Rattle.cb_tokens.specs.Forms.{is_name_byte};
+ghost use Rattle.cb_tokens.specs.Kinds.{token_kind};
 ghost use Rattle.cb_tokens.specs.Logical.{IsOneToken};
 ghost use Rattle.cb_tokens.specs.Whole.{IsDecided, closed_as};
 
 use crate::class::{Class, class_of};
-use crate::first::quoted_kind;
+use crate::first::{First, first_piece, quoted_kind};
 use crate::left::{QuoteLeft, are_names, are_punctuator, continue_number, quote_left};
-use crate::token::TokenKind;
+use crate::token::{PieceKind, TokenKind};
 use cb_lines::Marker;
 
 /// The kind of the one token that the bytes are as a source of their own; none where they are anything else. It takes
@@ -20,6 +21,28 @@ pub fn one_token(bytes: &[u8]) -> Option<TokenKind>
     ensures only_token { (kind : TokenKind) → IsOneToken (marks_of bytes.now) kind → result ≡ Some kind }
 {
     decide(bytes)
+}
+
+/// The kind of the one token that the bytes are as they stand, with no splice taken out; none where they are anything else. It
+/// takes no memory.
+pub fn token_kind(bytes: &[u8]) -> Option<TokenKind>
+    ensures { result ≡ token_kind bytes.now }
+{
+    if bytes.is_empty() {
+        return None;
+    }
+    let First::Piece { kind, len } = first_piece(bytes) else {
+        return None;
+    };
+    if len < bytes.len() {
+        return None;
+    }
+    match kind {
+        PieceKind::White => None,
+        PieceKind::Comment => None,
+        PieceKind::LineEnd => None,
+        PieceKind::Token(kind) => Some(kind),
+    }
 }
 
 /// The marks of a source behind its first.

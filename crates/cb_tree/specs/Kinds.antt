@@ -1,20 +1,10 @@
 -- The kind of a directive line, and its tokens behind the directive's name (6.10).
 use Rattle.std.specs.Prelude.{ℕ, Bool, true, false, ◌||◌, if◌then◌else◌, List, [], ◌∷◌, codes}
 use Rattle.std.specs.Str.{bytes_eq}
-use Rattle.cb_tokens.specs.declared.token.TokenKind.{TokenKind}
-use Rattle.cb_tokens.specs.declared.token.TokenKind.TheVariants as token
 use Rattle.cb_tokens.specs.declared.token.Token.{Token}
+use Rattle.cb_tokens.specs.Kinds.{is_identifier_kind}
 use Rattle.cb_tree.specs.declared.node.NodeKind.{NodeKind}
 use Rattle.cb_tree.specs.declared.node.NodeKind.TheVariants.{If, Ifdef, Ifndef, Elif, Else, Endif, Define, Undef, Include, Once, Error, Other}
-
--- an identifier (6.4.2)
-abbrev pub is_identifier_kind : TokenKind → Bool
-is_identifier_kind token.Identifier = true
-is_identifier_kind token.Number = false
-is_identifier_kind token.Char = false
-is_identifier_kind token.Str = false
-is_identifier_kind token.Punct = false
-is_identifier_kind token.Other = false
 
 -- # or the digraph %: (6.10 paragraph 2, 6.4.6 paragraph 3)
 unfoldable pub is_hash_text : List ℕ → Bool

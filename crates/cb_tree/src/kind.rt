@@ -2,20 +2,10 @@
 ghost use Rattle.std.specs.Prelude.{◌≡◌, List, length, codes, IfSome, IfNone};
 ghost use Rattle.cb_tokens.specs.declared.token.Token.{Token};
 ghost use Rattle.cb_tree.specs.Heads.{has_name, is_line, unnamed_kind, IsNamed};
-ghost use Rattle.cb_tree.specs.Kinds.{is_identifier_kind, is_hash_text, begins_with_name, kind_of_name, kind_behind_hash, rest_behind_hash};
+ghost use Rattle.cb_tree.specs.Kinds.{is_hash_text, begins_with_name, kind_of_name, kind_behind_hash, rest_behind_hash};
 
 use crate::node::NodeKind;
-use cb_tokens::{Token, TokenKind};
-
-/// Whether a token is an identifier.
-fn is_identifier(token: &Token) -> bool
-    ensures { result ≡ is_identifier_kind token.now.kind }
-{
-    match token.kind {
-        TokenKind::Identifier => true,
-        _ => false,
-    }
-}
+use cb_tokens::Token;
 
 /// Whether these are the bytes of `#` or `%:`.
 #[tactic(auto, unfolding(crate::specs::Kinds::is_hash_text))]
@@ -31,7 +21,7 @@ fn begins_with_once(tokens: &[Token]) -> bool
 {
     match tokens {
         [] => false,
-        [first, ..] => is_identifier(first) && first.text.as_slice() == b"once".as_slice(),
+        [first, ..] => first.is_identifier() && first.text.as_slice() == b"once".as_slice(),
     }
 }
 
@@ -40,7 +30,7 @@ pub(crate) fn rest_behind_hash(tokens: &[Token]) -> &[Token]
     ensures { result.now ≡ rest_behind_hash tokens.now }
 {
     match tokens {
-        [first, rest @ ..] if is_identifier(first) => rest,
+        [first, rest @ ..] if first.is_identifier() => rest,
         _ => tokens,
     }
 }
@@ -118,7 +108,7 @@ pub(crate) fn kind_behind_hash(tokens: &[Token]) -> NodeKind
     ensures { result ≡ kind_behind_hash tokens.now }
 {
     match tokens {
-        [first, rest @ ..] if is_identifier(first) => kind_of_name(first.text.as_slice(), rest),
+        [first, rest @ ..] if first.is_identifier() => kind_of_name(first.text.as_slice(), rest),
         _ => NodeKind::Other,
     }
 }

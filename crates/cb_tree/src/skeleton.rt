@@ -5,13 +5,6 @@ ghost use Rattle.cb_tree.specs.Skeleton.{skeleton};
 use crate::nodes::Nodes;
 use cb_tokens::Token;
 
-/// Whether two tokens agree in form, bytes and white space.
-fn is_same_token(a: &Token, b: &Token) -> bool
-    ensures { IsTrue result ↔ (a.now ≡ b.now) }
-{
-    a.kind == b.kind && a.spaced == b.spaced && a.text.as_slice() == b.text.as_slice()
-}
-
 /// Whether two lists of tokens agree.
 pub(crate) fn are_same_tokens(a: &[Token], b: &[Token]) -> bool
     ensures { IsTrue result ↔ (a.now ≡ b.now) }
@@ -20,7 +13,7 @@ pub(crate) fn are_same_tokens(a: &[Token], b: &[Token]) -> bool
         return false;
     }
     for i in 0..a.len() {
-        if !is_same_token(&a[i], &b[i]) {
+        if !a[i].is_same(&b[i]) {
             return false;
         }
     }
