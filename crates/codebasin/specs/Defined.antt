@@ -6,7 +6,7 @@ use Rattle.std.specs.Str.{bytes_eq}
 use Rattle.std.specs.FinSet as set
 use Rattle.cb_tokens.specs.declared.token.TokenKind.TheVariants.{Number}
 use Rattle.cb_tokens.specs.declared.token.Token.{Token}
-use Rattle.cb_tree.specs.Kinds.{is_identifier_kind}
+use Rattle.cb_tokens.specs.Kinds.{is_identifier_kind}
 use Rattle.codebasin.specs.declared.defined.Asked.{Asked}
 use Rattle.codebasin.specs.declared.defined.Digits.{Digits}
 use Rattle.codebasin.specs.NameSet.{NameSet}

@@ -3,7 +3,7 @@ use Rattle.std.specs.Prelude.{ℕ, ◌&&◌, Bool, true, false, not, if◌then�
 use Rattle.cb_tokens.specs.declared.token.Token.{Token}
 use Rattle.cb_tree.specs.declared.node.NodeKind.{NodeKind}
 use Rattle.cb_tree.specs.declared.node.NodeKind.TheVariants.{Text, If, Ifdef, Ifndef, Elif, Else, Endif, Define, Undef, Include, Once, Error, Other}
-use Rattle.cb_tree.specs.Kinds.{is_identifier_kind}
+use Rattle.cb_tokens.specs.Kinds.{is_identifier_kind}
 use Rattle.cb_tree.specs.Nodes.{Node, node_rest, node_line}
 use Rattle.codebasin.specs.Defined.{leaves_name}
 use Rattle.codebasin.specs.Pass.{may_be_macro}

@@ -8,7 +8,7 @@ use Rattle.cb_lines.specs.Lines.{with_line}
 use Rattle.cb_tokens.specs.declared.token.Token.{Token}
 use Rattle.cb_tree.specs.declared.node.NodeKind.{NodeKind}
 use Rattle.cb_tree.specs.declared.node.NodeKind.TheVariants.{Text, If, Ifdef, Ifndef, Elif, Else, Endif, Define, Undef, Include, Once, Error, Other}
-use Rattle.cb_tree.specs.Kinds.{is_identifier_kind}
+use Rattle.cb_tokens.specs.Kinds.{is_identifier_kind}
 use Rattle.cb_tree.specs.Nodes.{Node, node_rest}
 use Rattle.cb_paths.specs.declared.language.Language.TheVariants.{C}
 use Rattle.cb_cond.specs.declared.bad_condition.BadCondition.{BadCondition}

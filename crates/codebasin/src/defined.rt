@@ -2,7 +2,6 @@
 ghost use Rattle.std.specs.Prelude.{◌≡◌, ◌+◌, ◌≤◌, ◌<◌, ◌++◌, ◌∷◌, [], true, false, length, take, drop, IfOk, None, Some};
 ghost use Rattle.std.specs.Option.{option_map};
 ghost use Rattle.cb_cond.specs.Parts.{tokens_of};
-ghost use Rattle.cb_tree.specs.Kinds.{is_identifier_kind};
 ghost use Rattle.codebasin.specs.NameSet.{NameSet};
 ghost use Rattle.codebasin.specs.Defined.{question, question_within, question_behind, question_at, answer_token, question_len, AreDigits, answered, leaves_name};
 
@@ -18,17 +17,6 @@ struct Asked<'a> {
     len: usize,
 }
 
-/// Whether a token is an identifier.
-#[inline]
-fn is_identifier(token: &Token) -> bool
-    ensures { result ≡ is_identifier_kind token.now.kind }
-{
-    match token.kind {
-        TokenKind::Identifier => true,
-        _ => false,
-    }
-}
-
 /// `( X )` behind its first token.
 fn question_within<'a>(first: &Token, tokens: &'a [Token]) -> Option<Asked<'a>>
     ensures is { option_map question result ≡ question_within first.now tokens.now }
@@ -37,7 +25,7 @@ fn question_within<'a>(first: &Token, tokens: &'a [Token]) -> Option<Asked<'a>>
     match tokens {
         [name, last, ..]
             if first.text.as_slice() == b"(".as_slice()
-                && is_identifier(name)
+                && name.is_identifier()
                 && last.text.as_slice() == b")".as_slice() => {
             Some(Asked {
                 name: name.text.as_slice(),
@@ -55,7 +43,7 @@ fn question_behind(tokens: &[Token]) -> Option<Asked<'_>>
     ensures within { question_len (option_map question result) ≤ length tokens.now }
 {
     let (first, rest) = tokens.split_first()?;
-    if is_identifier(first) {
+    if first.is_identifier() {
         return Some(Asked {
             name: first.text.as_slice(),
             len: 1,
@@ -70,7 +58,7 @@ fn question_at<'a>(token: &Token, behind: &'a [Token]) -> Option<Asked<'a>>
     ensures is { option_map question result ≡ question_at token.now behind.now }
     ensures within { question_len (option_map question result) ≤ length behind.now }
 {
-    if is_identifier(token) && token.text.as_slice() == b"defined".as_slice() {
+    if token.is_identifier() && token.text.as_slice() == b"defined".as_slice() {
         question_behind(behind)
     } else {
         None
@@ -193,7 +181,7 @@ pub(crate) fn leaves_name(tokens: &[Token]) -> bool
     let mut rest = tokens;
     'tokens: while !rest.is_empty() {
         let asked = question_at(&rest[0], &rest[1..]);
-        if asked.is_none() && is_identifier(&rest[0]) {
+        if asked.is_none() && rest[0].is_identifier() {
             return true;
         }
         rest = behind(&rest[1..], asked);
