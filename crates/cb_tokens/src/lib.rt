@@ -16,8 +16,6 @@ mod punctuator;
 mod quote;
 mod runs;
 mod table;
-#[cfg(test)]
-mod tests;
 mod token;
 mod token_list;
 mod whole;

@@ -210,32 +210,3 @@ pub fn plain_stretch(bytes: &[u8], end: usize) -> Stretch
         at = next;
     }
 }
-
-#[cfg(test)]
-mod tests {
-    use super::*;
-    use std::test::Fail;
-
-    #[test]
-    fn stretches_end_where_no_piece_goes_on(rt: HostRuntime) -> Result<(), Fail> {
-        for (bytes, white, len, seen) in [
-            (b"a + b;\nc".as_slice(), 0, 6, 6),
-            (b"print(a, \"b c\");\n".as_slice(), 0, 16, 16),
-            (b"print(\"b c\" / 'd');\n".as_slice(), 0, 19, 19),
-            (b"a L'b'\n".as_slice(), 0, 6, 6),
-            (b"a(L'b')\n".as_slice(), 0, 7, 7),
-            (b"a + b[c".as_slice(), 0, 6, 7),
-            (b"a = 1'000 + \"b // c\" + d; // e\n".as_slice(), 0, 26, 26),
-            (b"a \"b\n".as_slice(), 0, 4, 4),
-            (b"a /* b */\n".as_slice(), 0, 2, 2),
-            (b"a b".as_slice(), 0, 2, 3),
-            (b" \ta\n".as_slice(), 2, 0, 3),
-        ] {
-            assert_eq!(rt; white_front(bytes), white, "in {bytes:?}");
-            let stretch = plain_stretch(bytes, bytes.len());
-            assert_eq!(rt; stretch.len, len, "in {bytes:?}");
-            assert_eq!(rt; stretch.seen, seen, "in {bytes:?}");
-        }
-        Ok(())
-    }
-}
