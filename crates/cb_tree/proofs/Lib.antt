@@ -21,3 +21,6 @@ pub mod Nested
 pub mod FrameSteps
 pub mod NestSteps
 pub mod EveryEnd
+pub mod LineMarks
+pub mod CountedLines
+pub mod SomeReading

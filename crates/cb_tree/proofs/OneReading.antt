@@ -1,5 +1,5 @@
 -- A source is read in one way, since marks are cut in one way.
-use Rattle.std.proofs.Common.{◌≡◌, ℕ, ◌<◌, List, [], length, Some, None, Result, Err, ◌⊎◌, inl, inr, refl, ap, sym, ◌∙◌, arith}
+use Rattle.std.proofs.Common.{◌≡◌, ℕ, ◌<◌, List, [], length, Some, None, Result, Ok, Err, ◌⊎◌, inl, inr, refl, ap, sym, ◌∙◌, arith}
 use Rattle.cb_lines.specs.declared.mark.Mark.{Mark}
 use Rattle.cb_lines.specs.Marks.{marks_of}
 use Rattle.cb_tokens.specs.Cut.{Piece, IsCut, HasOpenComment}
@@ -88,3 +88,15 @@ pub not_sound : (source : List ℕ) → OneReading source → (nodes : List Node
 not_sound source one nodes f h g =
     let same : Sound nodes ≡ Unsound f = one (Sound nodes) (Unsound f) h g in
     cc
+
+-- two readings as sound are one
+pub same_nodes : (source : List ℕ) → OneReading source → (a b : List Node) → IsRead source (Sound a) → IsRead source (Sound b) → a ≡ b
+same_nodes source one a b h g =
+    let same : Sound a ≡ Sound b = one (Sound a) (Sound b) h g in
+    cc
+
+-- a sound source is refused for memory alone
+pub same_tree : (source : List ℕ) → OneReading source → (fault : BuildFault) (nodes : List Node) → IsReadAs source fault → IsRead source (Sound nodes)
+    → (◌≡◌ {A = Result Tree BuildFault} (Err fault) (Ok nodes)) ⊎ (◌≡◌ {A = Result Tree BuildFault} (Err fault) (Err NoMemory))
+same_tree source one NoMemory nodes h g = inr refl
+same_tree source one (Bad f) nodes h g = absurd (not_sound source one nodes f g h)

@@ -1,6 +1,7 @@
 -- The nodes of a source: its directive lines, and the maximal runs of its other logical lines with tokens (6.10).
-use Rattle.std.specs.Prelude.{ℕ, if◌then◌else◌, List, [], ◌∷◌, ◌++◌, length, map}
-use Rattle.std.specs.List.{sum_by}
+use Rattle.std.specs.Prelude.{ℕ, ◌<◌, if◌then◌else◌, List, [], ◌∷◌, ◌++◌, length, map, All}
+use Rattle.std.specs.List.{flat_map, sum_by}
+use Rattle.std.specs.List.Sorted.{IsStrictlyIncreasing}
 use Rattle.cb_tokens.specs.declared.token.Token.{Token}
 use Rattle.cb_tokens.specs.Cut.{Piece}
 use Rattle.cb_tokens.specs.Logical.{split_lines, line_tokens, counted_lines}
@@ -30,6 +31,11 @@ node_rest n = rest_of n.tokens
 -- the number of the counted lines of all nodes (own)
 abbrev pub total_lines : List Node → ℕ
 total_lines nodes = sum_by (λ n. length n.counted) nodes
+
+-- each node has a line, and the counted lines of all of them, node after node, rise from 1 on: none stands in two nodes (own)
+pub record AreCounted (nodes : List Node) : Type 0 where
+  pub lines : All (λ n. 0 < node_line n) nodes
+  pub rise : IsStrictlyIncreasing (0 ∷ flat_map (λ n. n.counted) nodes)
 
 -- a logical line of text joins the run of text that follows it directly
 abbrev pub join_text : List Piece → List (List Piece) → List (List Piece)

@@ -6,7 +6,7 @@ use Rattle.cb_tree.specs.declared.node.NodeKind.TheVariants.{Text, If, Ifdef, If
 use Rattle.cb_tree.specs.declared.part.Part.{Part}
 use Rattle.cb_tree.specs.Nesting.{places_of, places_from}
 use Rattle.cb_tree.specs.Groups.{opens_group, kinds_of, ends_from}
-use Rattle.cb_tree.specs.Nodes.{Node}
+use Rattle.cb_tree.specs.Nodes.{Node, AreCounted}
 use Rattle.cb_tree.specs.Sections.{first_fault}
 
 -- an entry of the table of ends: the node that ends the group, 0 where none begins, since nodes are numbered from 1
@@ -17,6 +17,7 @@ entry_of end = unwrap_or end 0
 pub record IsKept (nodes : List Node) (ends : List ℕ) (parts : List Part) : Type 0 where
   pub few : length nodes ≤ 4194304
   pub no_fault : first_fault nodes [] ≡ None
+  pub counted : AreCounted nodes
   pub ends_are : ends ≡ map entry_of (ends_from 1 (kinds_of nodes))
   pub parts_are : places_of parts ≡ places_from 1 (kinds_of nodes)
 

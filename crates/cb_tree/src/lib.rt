@@ -22,7 +22,7 @@ mod skeleton;
 mod stretch;
 mod tree;
 
-pub use building::{build, one_reading};
+pub use building::{build, every_reading, one_reading};
 pub use fault::{BadSource, BuildFault, SourceKind};
 pub use node::NodeKind;
 pub use part::{Group, Groups, Part, Parts, Section};

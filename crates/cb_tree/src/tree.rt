@@ -1,11 +1,12 @@
 //! The tree of a source.
-ghost use Rattle.std.specs.Prelude.{◌≡◌, ◌<◌, ◌≤◌, ◌-◌, length, slice_get, Some, ◌↔◌, IsTrue, IsSome, IfSome, MatchOption, true};
+ghost use Rattle.std.specs.Prelude.{◌≡◌, ◌<◌, ◌≤◌, ◌-◌, length, slice_get, [], None, Some, ◌↔◌, IsTrue, IsSome, IfSome, MatchOption, true};
 ghost use Rattle.std.specs.Option.{option_map};
 ghost use Rattle.std.specs.List.{flat_map};
 ghost use Rattle.cb_lines.specs.Lines.{AreMaximal, span_lines};
-ghost use Rattle.cb_tree.specs.Nodes.{node_line, node_rest, first_of, total_lines};
+ghost use Rattle.cb_tree.specs.Nodes.{AreCounted, node_line, node_rest, first_of, total_lines};
 ghost use Rattle.cb_tree.specs.Groups.{kinds_of, opens_group, group_end_of};
 ghost use Rattle.cb_tree.specs.Nesting.{places_of, places_from};
+ghost use Rattle.cb_tree.specs.Sections.{first_fault};
 ghost use Rattle.cb_tree.specs.Skeleton.{skeleton};
 
 use crate::node::NodeKind;
@@ -54,16 +55,18 @@ fn end_by_entry(entry: u32) -> Option<u32>
 }
 
 impl Tree {
-    /// The number of nodes.
+    /// The number of nodes. They have no fault.
     pub fn len(&self) -> u32
-        ensures { result ≡ length self.now }
+        ensures count { result ≡ length self.now }
+        ensures sound { first_fault self.now [] ≡ None }
     {
         self.nodes.len() as u32
     }
 
-    /// The number of the counted lines of all nodes together.
+    /// The number of the counted lines of all nodes together. No line stands in two nodes.
     pub fn total(&self) -> u64
-        ensures { result ≡ total_lines self.now }
+        ensures count { result ≡ total_lines self.now }
+        ensures apart { AreCounted self.now }
     {
         self.nodes.total()
     }
@@ -96,7 +99,8 @@ impl Tree {
 
     /// The nodes in order, nested as their if sections. Read from front to back they are all nodes, each once and in its role.
     pub fn parts(&self) -> &[Part]
-        ensures { places_of result.now ≡ places_from 1 (kinds_of self.now) }
+        ensures places { places_of result.now ≡ places_from 1 (kinds_of self.now) }
+        ensures sound { first_fault self.now [] ≡ None }
     {
         self.parts.as_slice()
     }
@@ -109,19 +113,22 @@ impl Tree {
         self.nodes.rest(node as usize - 1)
     }
 
-    /// The set of the physical lines on which a byte of a token of the node stands.
+    /// The set of the physical lines on which a byte of a token of the node stands: at least one.
     pub fn counted(&self, node: u32) -> &Lines
         requires { (1 ≤ node) × (node ≤ length self.now) }
-        ensures { option_map (λ n. n.counted) (slice_get self.now (node - 1)) ≡ Some result.now }
+        ensures some { 0 < length result.now }
+        ensures lines { option_map (λ n. n.counted) (slice_get self.now (node - 1)) ≡ Some result.now }
     {
         self.nodes.counted(node as usize - 1)
     }
 
-    /// The first physical line with a byte of a token of the node.
+    /// The first physical line with a byte of a token of the node, at least 1.
     pub fn line(&self, node: u32) -> u32
         requires { (1 ≤ node) × (node ≤ length self.now) }
-        ensures { option_map node_line (slice_get self.now (node - 1)) ≡ Some result }
+        ensures some { 1 ≤ result }
+        ensures line { option_map node_line (slice_get self.now (node - 1)) ≡ Some result }
     {
+        let _ = &self.nodes;
         first_line(self.counted(node).spans())
     }
 }

@@ -28,3 +28,6 @@ pub read_nodes-requires : goal.read_nodes-requires
 read_nodes-requires c =
     let walk_is : c.new-walk.result ≡ marks_of c.args.source.now = c.new-walk.ensures ∙ c.in_ok-marks.ensures in
     omega (arith, few_marks c.args.source.now, ap length walk_is, c.in_ok-check_size.ensures.bytes)
+
+pub returns-clause-counted : goal.returns-clause-counted
+returns-clause-counted c = c.every_reading.ensures.counted c.args.source.now c.in_ok-nodes.nodes (returns-clause-nodes c)
