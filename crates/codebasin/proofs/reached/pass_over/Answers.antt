@@ -18,25 +18,25 @@ loop-index-init c =
 
 pub returns-then-not-is_ready : goal.returns-then-not-is_ready
 returns-then-not-is_ready c =
-    let within : c.loop-index.index < length c.args.tree.now = omega (arith, c.len-index-end.ensures, c.loop-index-test.true) in
+    let within : c.loop-index.index < length c.args.tree.now = omega (arith, c.len-index-end.ensures.count, c.loop-index-test.true) in
     let step = first_unready-at c.args.tree.now c.loop-index.index false within
     (ready_at c.args.tree.now c.loop-index.index false c.kind-kind.result c.rest-rest.result.now c.kind-kind.ensures c.rest-rest.ensures c.if-not-is_ready.ensures) in
-    sym (sym c.line.ensures ∙ ap (option_map node_line) step.1 ∙ sym step.2 ∙ c.loop-index.invariant.ready)
+    sym (sym c.line.ensures.line ∙ ap (option_map node_line) step.1 ∙ sym step.2 ∙ c.loop-index.invariant.ready)
 
 pub loop-index-preserved : goal.loop-index-preserved
 loop-index-preserved c =
-    let within : c.loop-index.index < length c.args.tree.now = omega (arith, c.len-index-end.ensures, c.loop-index-test.true) in
+    let within : c.loop-index.index < length c.args.tree.now = omega (arith, c.len-index-end.ensures.count, c.loop-index-test.true) in
     let step = first_unready-at c.args.tree.now c.loop-index.index true within
     (ready_at c.args.tree.now c.loop-index.index true c.kind-kind.result c.rest-rest.result.now c.kind-kind.ensures c.rest-rest.ensures c.if-not-is_ready.ensures) in
     record {
       reached = reached_next c.args.tree.now _ c.loop-index.index c.loop-index.pass c.visit.new.pass c.loop-index.lines c.visit.new.set within
-          c.kind-kind.result c.rest-rest.result.now c.counted-counted.result.now c.kind-kind.ensures c.rest-rest.ensures c.counted-counted.ensures
+          c.kind-kind.result c.rest-rest.result.now c.counted-counted.result.now c.kind-kind.ensures c.rest-rest.ensures c.counted-counted.ensures.lines
           c.in_ok-visit.ensures.state c.in_ok-visit.ensures.lines c.loop-index.invariant.reached;
       ready = sym step.2 ∙ c.loop-index.invariant.ready;
     }
 
 pub returns : goal.returns
 returns c =
-    let all : length c.args.tree.now ≤ c.loop-index.index = omega (arith, c.len-index-end.ensures, c.loop-index-test.false) in
+    let all : length c.args.tree.now ≤ c.loop-index.index = omega (arith, c.len-index-end.ensures.count, c.loop-index-test.false) in
     let found = reached_all c.args.tree.now _ c.loop-index.index c.loop-index.pass c.loop-index.lines all c.loop-index.invariant.reached in
     (sym c.loop-index.invariant.ready ∙ ap first_unready (drop_all c.loop-index.index c.args.tree.now all), found.0, found.1, found.2)
