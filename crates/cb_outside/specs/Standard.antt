@@ -1,7 +1,12 @@
 -- What the objects over std stand for.
 use Rattle.std.specs.Prelude.{ℕ, List, Option}
 
--- standard input: the bytes left, where the runtime's reader tells them, and how many reads have failed (own)
+-- a reader of std: the bytes left, where it tells them, and how many reads have failed (own)
 pub record InputState : Type 0 where
   pub left : Option (List ℕ)
+  pub faults : ℕ
+
+-- a writer of std: the bytes taken, where it tells them, and how many writes have failed (own)
+pub record OutputState : Type 0 where
+  pub taken : Option (List ℕ)
   pub faults : ℕ

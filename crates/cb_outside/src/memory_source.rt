@@ -75,6 +75,8 @@ impl Source for MemSource {
         ensures never_falls { self.old.faults ≤ self.new.faults }
 
         ensures fails { IsErr result ↔ IsDue self.old.fails self.old.calls }
+        ensures behind { IfOk result (λ n. drop n buf.new ≡ drop n buf.old) }
+        ensures untouched { OnErr result (buf.new ≡ buf.old) }
         ensures count { IfOk result (λ n. n ≡ given_next self.old (length buf.old)) }
         ensures ok { IfOk result (λ n. self.new ≡ record self.old {
           left = drop n self.old.left;
@@ -116,6 +118,7 @@ fn copy_front(from: &[u8], to: &mut [u8], most: usize) -> usize
     requires { most ≤ length to.old }
     ensures count { result ≡ min (length from.now) most }
     ensures copied { take result to.new ≡ take result from.now }
+    ensures behind { drop result to.new ≡ drop result to.old }
 {
     let count = from.len().min(most);
     to[..count].copy_from_slice(&from[..count]);

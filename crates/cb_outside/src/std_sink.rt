@@ -1,58 +1,78 @@
-//! Standard output as a sink.
-ghost use Rattle.std.specs.Prelude.{◌≡◌, ◌<◌, ◌≤◌, length, None, IfOk, OnOk, OnErr};
+//! A writer of std, such as standard output, as a sink.
+ghost use Rattle.std.specs.Prelude.{◌≡◌, ◌<◌, ◌≤◌, length, IfOk, OnOk, OnErr};
 ghost use Rattle.std.specs.Io.KnownBytes.{WriteAppends};
 ghost use Rattle.cb_outside.specs.Outside.{Rose, one_more};
 
 use crate::failed::Failed;
 use crate::sink::Sink;
+use std::io::Write;
 use std::marker::Model;
 
-/// Standard output. It keeps no buffer: what a write took has left the program. It tells nothing of its bytes;
-/// contracts see it as its count of errors.
+/// A sink over a writer. It keeps no buffer of its own. It tells of its bytes what the writer tells: a vector tells them, and the
+/// system's standard output tells nothing.
 #[derive(Drop)]
-pub struct StdSink<'a, P: Print> {
-    to: &'a P,
+pub struct StdSink<W: Write> {
+    writer: W,
     errors: u64,
 }
 
-impl<'a, P: Print> Model for StdSink<'a, P> {
-    ghost use Rattle.std.specs.Prelude.{ℕ};
+impl<W: Write> Model for StdSink<W> {
+    ghost use Rattle.cb_outside.specs.Standard.{OutputState};
 
-    ghost Value = { ℕ };
+    ghost Value = { OutputState };
 
-    ghost view = { λ s. s.errors };
+    ghost view = { λ s. record { taken = W.contents s.writer; faults = s.errors } };
 }
 
-impl<'a, P: Print> StdSink<'a, P> {
-    /// The standard output of this runtime.
-    pub fn new(rt: &'a P) -> StdSink<'a, P>
-        ensures { result ≡ 0 }
+impl<W: Write> StdSink<W> {
+    /// A sink over this writer, as `std::io::writer(&rt)` is for standard output.
+    pub fn new(writer: W) -> StdSink<W>
+        ensures { result ≡ record { taken = W.contents writer; faults = 0 } }
     {
-        StdSink { to: rt, errors: 0 }
+        StdSink { writer, errors: 0 }
     }
 }
 
-impl<P: Print> Sink for StdSink<'_, P> {
-    ghost taken = { λ _. None };
+impl<W: Write> Sink for StdSink<W> {
+    ghost taken = { λ s. s.taken };
 
-    ghost faults = { λ s. s };
+    ghost faults = { λ s. s.faults };
 
     fn write(&mut self, bytes: &[u8]) -> Result<usize, Failed>
         ensures within { IfOk result (λ n. n ≤ length bytes.now) }
         ensures some { 0 < length bytes.now → IfOk result (λ n. 0 < n) }
-        ensures content { WriteAppends None None result bytes.now }
-        ensures kept { OnOk result (self.new ≡ self.old) }
-        ensures rose { OnErr result (Rose self.old self.new) }
-        ensures never_falls { self.old ≤ self.new }
+        ensures content { WriteAppends self.old.taken self.new.taken result bytes.now }
+        ensures kept { OnOk result (self.new.faults ≡ self.old.faults) }
+        ensures rose { OnErr result (Rose self.old.faults self.new.faults) }
+        ensures never_falls { self.old.faults ≤ self.new.faults }
 
-        ensures err { OnErr result (self.new ≡ one_more self.old) }
+        ensures err { OnErr result (self.new.faults ≡ one_more self.old.faults) }
     {
-        match self.to.write_some(bytes) {
-            Ok(count) if count > 0 || bytes.is_empty() => Ok(count),
-            _ => {
+        match self.writer.write(bytes) {
+            Ok(count) => self.counted(count, bytes.len()),
+            Err(_) => {
                 self.errors = self.errors.saturating_add(1);
                 Err(Failed)
             }
         }
+    }
+}
+
+impl<W: Write> StdSink<W> {
+    /// The answer where the writer took so many bytes of a piece: to take none of some counts as an error.
+    fn counted(&mut self, count: usize, len: usize) -> Result<usize, Failed>
+        ensures taken { self.new.taken ≡ self.old.taken }
+        ensures count { IfOk result (λ n. n ≡ count) }
+        ensures some { 0 < len → IfOk result (λ n. 0 < n) }
+        ensures none { OnErr result (count ≡ 0) }
+        ensures kept { OnOk result (self.new.faults ≡ self.old.faults) }
+        ensures never_falls { self.old.faults ≤ self.new.faults }
+        ensures err { OnErr result (self.new.faults ≡ one_more self.old.faults) }
+    {
+        if count == 0 && len > 0 {
+            self.errors = self.errors.saturating_add(1);
+            return Err(Failed);
+        }
+        Ok(count)
     }
 }

@@ -1,4 +1,4 @@
-//! Standard input as a source.
+//! A reader of std, such as standard input, as a source.
 ghost use Rattle.std.specs.Prelude.{◌≡◌, ◌≤◌, length, IfOk, OnOk, OnErr};
 ghost use Rattle.std.specs.Io.KnownBytes.{ReadConsumes};
 ghost use Rattle.cb_outside.specs.Outside.{Rose, one_more};
@@ -8,34 +8,32 @@ use crate::source::Source;
 use std::io::Read;
 use std::marker::Model;
 
-/// Standard input. It tells of its bytes what the runtime's reader tells, and the system's reader tells nothing.
+/// A source over a reader. It tells of its bytes what the reader tells: a slice tells them, and the system's standard input tells
+/// nothing.
 #[derive(Drop)]
-pub struct StdSource<R: Input> {
-    reader: R::Reader,
+pub struct StdSource<R: Read> {
+    reader: R,
     errors: u64,
 }
 
-impl<R: Input> Model for StdSource<R> {
+impl<R: Read> Model for StdSource<R> {
     ghost use Rattle.cb_outside.specs.Standard.{InputState};
 
     ghost Value = { InputState };
 
-    ghost view = { λ s. record { left = R.Reader.remaining s.reader; faults = s.errors } };
+    ghost view = { λ s. record { left = R.remaining s.reader; faults = s.errors } };
 }
 
-impl<R: Input> StdSource<R> {
-    /// The standard input of this runtime.
-    pub fn new(rt: &R) -> StdSource<R>
-        ensures { result.faults ≡ 0 }
+impl<R: Read> StdSource<R> {
+    /// A source over this reader, as `rt.reader()` is for standard input.
+    pub fn new(reader: R) -> StdSource<R>
+        ensures { result ≡ record { left = R.remaining reader; faults = 0 } }
     {
-        StdSource {
-            reader: rt.reader(),
-            errors: 0,
-        }
+        StdSource { reader, errors: 0 }
     }
 }
 
-impl<R: Input> Source for StdSource<R> {
+impl<R: Read> Source for StdSource<R> {
     ghost left = { λ s. s.left };
 
     ghost faults = { λ s. s.faults };
