@@ -10,11 +10,12 @@ use Rattle.cb_cond.specs.declared.frames.Frame.{Frame}
 use Rattle.cb_cond.specs.declared.frames.Held.{Held}
 use Rattle.cb_cond.specs.declared.frames.Held.TheVariants as held
 use Rattle.cb_cond.specs.declared.prefixes.Prefixes.TheVariants.{Linear}
-use Rattle.cb_cond.specs.Grammar.{Tree, IsCondition}
+use Rattle.cb_cond.specs.Grammar.{Expression, IsCondition}
 use Rattle.cb_cond.specs.Values.{meaning}
 use Rattle.cb_cond.specs.Symbols.{symbol, symbols}
-use Rattle.cb_cond.specs.Faults.{is_open, is_close, is_question, HasRoom, IsReadAs}
-use Rattle.cb_cond.specs.Frames as frames
+use Rattle.cb_cond.specs.Faults.{is_open, is_close, is_question}
+use Rattle.cb_cond.specs.inner.Attempts.{HasRoom, IsReadAs}
+use Rattle.cb_cond.specs.inner.Frames as frames
 use Rattle.cb_cond.proofs.Reading.{Place, Reading, Awaits, Has, Failed, step, run, ended, outcome}
 use Rattle.cb_cond.proofs.Complete.{complete-whole}
 use Rattle.cb_cond.proofs.Sound.{Sound, Good, good-run, condition, written, prefixes}
@@ -65,10 +66,10 @@ pub start-image : (fs : List Frame) → image (run [] start) ≡ Some (record { 
 unfolding run image composed
 start-image fs = ap (λ w. Some (record { frames = w; held = held.Awaits (Linear false 0) })) (sym (drop_all (length fs) fs (omega arith)))
 
-no-condition : (ss : List Symbol) → outcome ss start ≡ None → (t : Tree) → IsCondition ss t → ⊥
+no-condition : (ss : List Symbol) → outcome ss start ≡ None → (t : Expression) → IsCondition ss t → ⊥
 no-condition ss e t c = let f = complete-whole ss t c in cc
 
-read-as : (ss : List Symbol) (o : Option Tree) → outcome ss start ≡ o → IsReadAs ss (option_map meaning o)
+read-as : (ss : List Symbol) (o : Option Expression) → outcome ss start ≡ o → IsReadAs ss (option_map meaning o)
 read-as ss None e = no-condition ss e
 read-as ss (Some t) e = (t, condition ss t e, refl)
 

@@ -9,8 +9,8 @@ use Rattle.cb_cond.specs.declared.prefixes.Prefixes.{Prefixes}
 use Rattle.cb_cond.specs.declared.symbol.Prefix.{Prefix}
 use Rattle.cb_cond.specs.declared.symbol.Symbol.{Symbol}
 use Rattle.cb_cond.specs.declared.symbol.Symbol.TheVariants.{Number, Between, Exclamation, Tilde, OpenParenthesis, CloseParenthesis, Question, Colon, WideInteger, Stray}
-use Rattle.cb_cond.specs.Prefixes.{extended}
-use Rattle.cb_cond.specs.Frames.{ends, joined, closed, alone, prefix_of, prefixed, awaiting}
+use Rattle.cb_cond.specs.inner.Prefixes.{extended}
+use Rattle.cb_cond.specs.inner.Frames.{ends, joined, closed, alone, prefix_of, prefixed, awaiting}
 
 pub closed-next : (k : ℕ) (fs : List Frame) (i : ℕ) (d : Frame) (a : Meaning) → i < length fs → ends k (get_or fs i d) ≡ true
     → closed k (drop i fs) a ≡ closed k (drop (i + 1) fs) (joined (get_or fs i d) a)

@@ -7,7 +7,7 @@ use Rattle.cb_cond.specs.declared.symbol.Prefix.{Prefix}
 use Rattle.cb_cond.specs.declared.symbol.Prefix.TheVariants.{Not, Complement, Plus, Minus}
 use Rattle.cb_cond.specs.declared.symbol.Symbol.{Symbol}
 use Rattle.cb_cond.specs.declared.symbol.Symbol.TheVariants.{Number, Between, Exclamation, Tilde, OpenParenthesis, CloseParenthesis, Question, Colon, WideInteger, Stray}
-use Rattle.cb_cond.specs.Grammar.{Tree, Leaf, Parens, Unary, Binary, Choose, level, prefix_symbol, spelling, StandsAt, IsCondition}
+use Rattle.cb_cond.specs.Grammar.{Expression, Leaf, Parens, Unary, Binary, Choose, level, prefix_symbol, spelling, StandsAt, IsCondition}
 use Rattle.cb_cond.proofs.Reading.{Place, Left, Inside, Asked, Answered, Awaits, Has, unaries, ends, joined, Closed, collapse, awaiting, answered, closed, holding, step, run, whole, ended, outcome}
 
 -- how tightly the next symbol binds what stands before it
@@ -67,15 +67,15 @@ leb-not m n h = grind (arith, nat_tests)
 eqb-not : (m : ℕ) → 1 ≤ m → eqb m 0 ≡ false
 eqb-not m h = grind (arith, nat_tests)
 
-pub collapse-ends : (k : ℕ) (f : Place) (fs : List Place) (a : Tree) → ends k f ≡ true → collapse k (f ∷ fs) a ≡ collapse k fs (joined f a)
+pub collapse-ends : (k : ℕ) (f : Place) (fs : List Place) (a : Expression) → ends k f ≡ true → collapse k (f ∷ fs) a ≡ collapse k fs (joined f a)
 unfolding collapse
 collapse-ends k f fs a e = rw e refl
 
-pub collapse-stops : (k : ℕ) (f : Place) (fs : List Place) (a : Tree) → ends k f ≡ false → collapse k (f ∷ fs) a ≡ record { places = f ∷ fs; tree = a }
+pub collapse-stops : (k : ℕ) (f : Place) (fs : List Place) (a : Expression) → ends k f ≡ false → collapse k (f ∷ fs) a ≡ record { places = f ∷ fs; tree = a }
 unfolding collapse
 collapse-stops k f fs a e = rw e refl
 
-pub collapse-stays : (m k : ℕ) (fs : List Place) (a : Tree) → Stays m fs → m ≤ k → 1 ≤ k → collapse k fs a ≡ record { places = fs; tree = a }
+pub collapse-stays : (m k : ℕ) (fs : List Place) (a : Expression) → Stays m fs → m ≤ k → 1 ≤ k → collapse k fs a ≡ record { places = fs; tree = a }
 unfolding Stays collapse ends
 collapse-stays m k [] a h l p = refl
 collapse-stays m k (Left o b ∷ fs) a h l p = let e = leb-not k (level o) (omega arith) in rw e refl
@@ -84,7 +84,7 @@ collapse-stays m k (Asked b ∷ fs) a h l p = refl
 collapse-stays m k (Answered b c ∷ fs) a h l p = let e = eqb-not k p in rw e refl
 
 -- a place that the next symbol ends may be ended before
-absorbs : (r : List Symbol) (f : Place) (fs : List Place) (b : Tree) → ends (pulls r) f ≡ true → outcome r (Has (f ∷ fs) b) ≡ outcome r (Has fs (joined f b))
+absorbs : (r : List Symbol) (f : Place) (fs : List Place) (b : Expression) → ends (pulls r) f ≡ true → outcome r (Has (f ∷ fs) b) ≡ outcome r (Has fs (joined f b))
 unfolding outcome run step holding ended pulls
 absorbs [] f fs b e = rw (collapse-ends 0 f fs b e) refl
 absorbs (Between o ∷ ss) f fs b e = rw (collapse-ends (level o) f fs b e) refl
@@ -99,14 +99,14 @@ absorbs (WideInteger ∷ ss) f fs b e = refl
 absorbs (Stray ∷ ss) f fs b e = refl
 
 -- the tree may stand behind the prefix operators
-unfoldable Ready : Tree → List Prefix → Type 0
+unfoldable Ready : Expression → List Prefix → Type 0
 Ready (Leaf n u) ps = Unit {0}
 Ready (Parens a) ps = Unit {0}
 Ready (Unary p a) ps = Unit {0}
 Ready (Binary o a b) ps = ps ≡ []
 Ready (Choose a b c) ps = ps ≡ []
 
-Ready-none : (t : Tree) → Ready t []
+Ready-none : (t : Expression) → Ready t []
 unfolding Ready
 Ready-none (Leaf n u) = tt
 Ready-none (Parens a) = tt
@@ -114,7 +114,7 @@ Ready-none (Unary p a) = tt
 Ready-none (Binary o a b) = refl
 Ready-none (Choose a b c) = refl
 
-Ready-operand : (t : Tree) (ps : List Prefix) → StandsAt t 12 → Ready t ps
+Ready-operand : (t : Expression) (ps : List Prefix) → StandsAt t 12 → Ready t ps
 unfolding Ready StandsAt
 Ready-operand (Leaf n u) ps h = tt
 Ready-operand (Parens a) ps h = tt
@@ -129,7 +129,7 @@ step-prefix Complement fs ps = refl
 step-prefix Plus fs ps = refl
 step-prefix Minus fs ps = refl
 
-complete : (t : Tree) (m : ℕ) (fs : List Place) (ps : List Prefix) (r : List Symbol) → StandsAt t m → Stays m fs → Ready t ps → pulls r ≤ m → outcome (spelling t ++ r) (Awaits fs ps) ≡ outcome r (Has fs (unaries ps t))
+complete : (t : Expression) (m : ℕ) (fs : List Place) (ps : List Prefix) (r : List Symbol) → StandsAt t m → Stays m fs → Ready t ps → pulls r ≤ m → outcome (spelling t ++ r) (Awaits fs ps) ≡ outcome r (Has fs (unaries ps t))
 unfolding outcome run step awaiting holding answered closed collapse ends joined unaries spelling StandsAt Stays Ready pulls
 complete (Leaf n u) m fs ps r h s d p = refl
 complete (Parens a) m fs ps r h s d p =
@@ -153,12 +153,12 @@ complete (Choose a b c) m fs ps r h s d p =
     ∙ complete c 0 (Answered a b ∷ fs) [] r h.3 tt (Ready-none c) (omega (arith, h.0))
     ∙ absorbs r (Answered a b) fs c (ap (λ n. eqb n 0) (let z : pulls r ≡ 0 = omega (arith, h.0) in z)))
 
-pub complete-whole : (ss : List Symbol) (t : Tree) → IsCondition ss t → outcome ss (Awaits [] []) ≡ Some t
+pub complete-whole : (ss : List Symbol) (t : Expression) → IsCondition ss t → outcome ss (Awaits [] []) ≡ Some t
 unfolding outcome run step collapse whole ended StandsAt Stays unaries pulls
 complete-whole ss t c =
     ap (λ w. outcome w (Awaits [] [])) (c.spelled ∙ sym (append-nil (spelling t)))
     ∙ complete t 0 [] [] [] c.stands tt (Ready-none t) (omega arith)
 
 -- a list of symbols has at most one tree
-pub one_tree : (ss : List Symbol) (a b : Tree) → IsCondition ss a → IsCondition ss b → a ≡ b
+pub one_tree : (ss : List Symbol) (a b : Expression) → IsCondition ss a → IsCondition ss b → a ≡ b
 one_tree ss a b c d = let e = complete-whole ss a c in let f = complete-whole ss b d in cc

@@ -7,7 +7,8 @@ use Rattle.std.proofs.lemmas.List.{take_more, take_all}
 use Rattle.cb_cond.specs.declared.symbol.Symbol.{Symbol}
 use Rattle.cb_cond.specs.declared.symbol.Symbol.TheVariants.{CloseParenthesis}
 use Rattle.cb_cond.specs.declared.nesting.Slack.{Slack}
-use Rattle.cb_cond.specs.Faults.{is_open, is_close, is_question, HasRoom, IsTooDeep, IsSpent, IsSlackBehind}
+use Rattle.cb_cond.specs.Faults.{is_open, is_close, is_question, IsTooDeep}
+use Rattle.cb_cond.specs.inner.Attempts.{HasRoom, IsSpent, IsSlackBehind}
 
 -- behind the first i symbols this much may be opened
 pub record Leaves (ss : List Symbol) (i : ℕ) (slack : Slack) : Type 0 where

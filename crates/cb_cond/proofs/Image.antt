@@ -13,11 +13,11 @@ use Rattle.cb_cond.specs.declared.frames.Frame.{Frame}
 use Rattle.cb_cond.specs.declared.frames.Frame.TheVariants as code
 use Rattle.cb_cond.specs.declared.frames.Held.{Held}
 use Rattle.cb_cond.specs.declared.frames.Held.TheVariants as held
-use Rattle.cb_cond.specs.Grammar.{Tree, Leaf, Parens, Unary, Binary, Choose, level}
+use Rattle.cb_cond.specs.Grammar.{Expression, Leaf, Parens, Unary, Binary, Choose, level}
 use Rattle.cb_cond.specs.Values.{meaning, unary, binary, choose, chosen_value, wrapped, after_left, prefix_is_unsigned}
-use Rattle.cb_cond.specs.Prefixes.{extended, applied, linear}
-use Rattle.cb_cond.specs.Frames as frames
-use Rattle.cb_cond.specs.Frames.{Read, prefix_of, prefixed, opened}
+use Rattle.cb_cond.specs.inner.Prefixes.{extended, applied, linear}
+use Rattle.cb_cond.specs.inner.Frames as frames
+use Rattle.cb_cond.specs.inner.Frames.{Read, prefix_of, prefixed, opened}
 use Rattle.cb_cond.proofs.Reading.{Place, Left, Inside, Asked, Answered, Reading, Awaits, Has, Failed, unaries, ends, joined, Closed, collapse, awaiting, answered, closed, holding, step, whole, ended}
 use Rattle.cb_cond.proofs.Runs.{FitsValue, FitsRun, FitsRun-extended, applied-bits}
 
@@ -47,7 +47,7 @@ FitsValue-chosen (Bits n) b c h k = FitsValue-if (eqb n 0) c b k h
 FitsValue-chosen ZeroDivisor b c h k = unfold FitsValue in tt
 FitsValue-chosen Shift b c h k = unfold FitsValue in tt
 
-FitsValue-meaning : (t : Tree) → FitsValue (meaning t).value
+FitsValue-meaning : (t : Expression) → FitsValue (meaning t).value
 unfolding meaning unary binary choose
 FitsValue-meaning (Leaf n u) = FitsValue-wrapped (Bits n)
 FitsValue-meaning (Parens a) = FitsValue-meaning a
@@ -85,7 +85,7 @@ applied-none u ZeroDivisor h = refl
 applied-none u Shift h = refl
 
 -- operators before an operand, one after the other or as one function
-pub meaning-unaries : (ps : List Prefix) (t : Tree) → meaning (unaries ps t) ≡ applied (composed ps) (meaning t)
+pub meaning-unaries : (ps : List Prefix) (t : Expression) → meaning (unaries ps t) ≡ applied (composed ps) (meaning t)
 unfolding unaries composed meaning
 meaning-unaries [] t = sym (applied-none (meaning t).unsigned (meaning t).value (FitsValue-meaning t))
 meaning-unaries (p ∷ ps) t =
@@ -116,7 +116,7 @@ ends-frame k (Inside ps) = refl
 ends-frame k (Asked a) = refl
 ends-frame k (Answered a b) = refl
 
-joined-frame : (f : Place) (a : Tree) → frames.joined (frame_of f) (meaning a) ≡ meaning (joined f a)
+joined-frame : (f : Place) (a : Expression) → frames.joined (frame_of f) (meaning a) ≡ meaning (joined f a)
 unfolding frames.joined frame_of joined meaning
 joined-frame (Left o b) a = refl
 joined-frame (Inside ps) a = refl
@@ -127,7 +127,7 @@ closed-if : (v : Bool) (r s : Closed) (x : frames.Closed) → x ≡ image_closed
 closed-if true r s x e = e
 closed-if false r s x e = refl
 
-closed-image : (k : ℕ) (fs : List Place) (a : Tree) → frames.closed k (map frame_of fs) (meaning a) ≡ image_closed (collapse k fs a)
+closed-image : (k : ℕ) (fs : List Place) (a : Expression) → frames.closed k (map frame_of fs) (meaning a) ≡ image_closed (collapse k fs a)
 unfolding frames.closed collapse image_closed
 closed-image k [] a = refl
 closed-image k (f ∷ fs) a =
@@ -141,7 +141,7 @@ awaiting-image fs ps (Number n u) = ap (λ m. Some (record { frames = map frame_
 awaiting-image fs ps (Between Add) = refl
 awaiting-image fs ps _ = refl
 
-answered-image : (fs : List Place) (b : Tree) → image (answered fs b) ≡ frames.answered (map frame_of fs) (meaning b)
+answered-image : (fs : List Place) (b : Expression) → image (answered fs b) ≡ frames.answered (map frame_of fs) (meaning b)
 unfolding image answered frames.answered opened frame_of composed
 answered-image [] b = refl
 answered-image (Left o a ∷ fs) b = refl
@@ -149,7 +149,7 @@ answered-image (Inside ps ∷ fs) b = refl
 answered-image (Asked a ∷ fs) b = refl
 answered-image (Answered a c ∷ fs) b = refl
 
-parenthesized-image : (fs : List Place) (a : Tree) → image (closed fs a) ≡ frames.parenthesized (map frame_of fs) (meaning a)
+parenthesized-image : (fs : List Place) (a : Expression) → image (closed fs a) ≡ frames.parenthesized (map frame_of fs) (meaning a)
 unfolding image closed frames.parenthesized frame_of meaning
 parenthesized-image [] a = refl
 parenthesized-image (Left o b ∷ fs) a = refl
@@ -157,7 +157,7 @@ parenthesized-image (Inside ps ∷ fs) a = ap (λ m. Some (record { frames = map
 parenthesized-image (Asked b ∷ fs) a = refl
 parenthesized-image (Answered b c ∷ fs) a = refl
 
-holding-image : (fs : List Place) (a : Tree) (s : Symbol) → image (holding fs a s) ≡ frames.holding (map frame_of fs) (meaning a) s
+holding-image : (fs : List Place) (a : Expression) (s : Symbol) → image (holding fs a s) ≡ frames.holding (map frame_of fs) (meaning a) s
 unfolding image holding frames.holding opened composed frame_of image_closed
 holding-image fs a (Number n u) = refl
 holding-image fs a (Between o) = ap (λ (r : frames.Closed). opened (code.Left o r.operand ∷ r.frames)) (sym (closed-image (level o) fs a))
@@ -184,7 +184,7 @@ step-image fs h (Has gs a) s e =
     holding-image gs a s ∙ ap (λ (r : Read). frames.step r.frames r.held s) same
 step-image fs h Failed s e = cc
 
-alone-image : (fs : List Place) (a : Tree) → frames.alone (map frame_of fs) (meaning a) ≡ option_map meaning (whole fs a)
+alone-image : (fs : List Place) (a : Expression) → frames.alone (map frame_of fs) (meaning a) ≡ option_map meaning (whole fs a)
 unfolding frames.alone whole
 alone-image [] a = refl
 alone-image (f ∷ fs) a = refl

@@ -6,23 +6,23 @@ use Rattle.cb_cond.specs.declared.symbol.Prefix.{Prefix}
 use Rattle.cb_cond.specs.declared.symbol.Prefix.TheVariants.{Not, Complement, Plus, Minus}
 use Rattle.cb_cond.specs.declared.symbol.Symbol.{Symbol}
 use Rattle.cb_cond.specs.declared.symbol.Symbol.TheVariants.{Number, Between, Exclamation, Tilde, OpenParenthesis, CloseParenthesis, Question, Colon, WideInteger, Stray}
-use Rattle.cb_cond.specs.Grammar.{Tree, Leaf, Parens, Unary, Binary, Choose, level}
+use Rattle.cb_cond.specs.Grammar.{Expression, Leaf, Parens, Unary, Binary, Choose, level}
 
 -- what waits: the left operand of an operator, a parenthesis behind prefix operators (the last first), a choice
 pub data Place : Type 0 where
-  Left : Operator → Tree → Place
+  Left : Operator → Expression → Place
   Inside : List Prefix → Place
-  Asked : Tree → Place
-  Answered : Tree → Tree → Place
+  Asked : Expression → Place
+  Answered : Expression → Expression → Place
 
 -- what has been read: an operand is to come behind prefix operators, or one has come
 pub data Reading : Type 0 where
   Awaits : List Place → List Prefix → Reading
-  Has : List Place → Tree → Reading
+  Has : List Place → Expression → Reading
   Failed : Reading
 
 -- the tree of an operand behind prefix operators
-unfoldable pub unaries : List Prefix → Tree → Tree
+unfoldable pub unaries : List Prefix → Expression → Expression
 unaries [] t = t
 unaries (p ∷ ps) t = unaries ps (Unary p t)
 
@@ -34,7 +34,7 @@ ends k (Asked a) = false
 ends k (Answered a b) = eqb k 0
 
 -- the tree of a place with its last operand
-unfoldable pub joined : Place → Tree → Tree
+unfoldable pub joined : Place → Expression → Expression
 joined (Left o a) b = Binary o a b
 joined (Inside ps) b = b
 joined (Asked a) b = b
@@ -43,9 +43,9 @@ joined (Answered a b) c = Choose a b c
 -- what is left of the places and the tree once what follows has ended places
 pub record Closed : Type 0 where
   pub places : List Place
-  pub tree : Tree
+  pub tree : Expression
 
-unfoldable pub collapse : ℕ → List Place → Tree → Closed
+unfoldable pub collapse : ℕ → List Place → Expression → Closed
 collapse k [] a = record { places = []; tree = a }
 collapse k (f ∷ fs) a = cond (ends k f) (collapse k fs (joined f a)) (record { places = f ∷ fs; tree = a })
 
@@ -58,21 +58,21 @@ awaiting fs ps Tilde = Awaits fs (Complement ∷ ps)
 awaiting fs ps OpenParenthesis = Awaits (Inside ps ∷ fs) []
 awaiting fs ps _ = Failed
 
-unfoldable pub answered : List Place → Tree → Reading
+unfoldable pub answered : List Place → Expression → Reading
 answered [] b = Failed
 answered (Left o a ∷ fs) b = Failed
 answered (Inside ps ∷ fs) b = Failed
 answered (Asked a ∷ fs) b = Awaits (Answered a b ∷ fs) []
 answered (Answered a c ∷ fs) b = Failed
 
-unfoldable pub closed : List Place → Tree → Reading
+unfoldable pub closed : List Place → Expression → Reading
 closed [] a = Failed
 closed (Left o b ∷ fs) a = Failed
 closed (Inside ps ∷ fs) a = Has fs (unaries ps (Parens a))
 closed (Asked b ∷ fs) a = Failed
 closed (Answered b c ∷ fs) a = Failed
 
-unfoldable pub holding : List Place → Tree → Symbol → Reading
+unfoldable pub holding : List Place → Expression → Symbol → Reading
 holding fs a (Number n unsigned) = Failed
 holding fs a (Between o) = Awaits (Left o (collapse (level o) fs a).tree ∷ (collapse (level o) fs a).places) []
 holding fs a Exclamation = Failed
@@ -93,15 +93,15 @@ unfoldable pub run : List Symbol → Reading → Reading
 run [] r = r
 run (s ∷ ss) r = run ss (step r s)
 
-unfoldable pub whole : List Place → Tree → Option Tree
+unfoldable pub whole : List Place → Expression → Option Expression
 whole [] a = Some a
 whole (f ∷ fs) a = None
 
-unfoldable pub ended : Reading → Option Tree
+unfoldable pub ended : Reading → Option Expression
 ended (Awaits fs ps) = None
 ended (Has fs a) = whole (collapse 0 fs a).places (collapse 0 fs a).tree
 ended Failed = None
 
 -- the tree that is read in the end
-unfoldable pub outcome : List Symbol → Reading → Option Tree
+unfoldable pub outcome : List Symbol → Reading → Option Expression
 outcome ss r = ended (run ss r)

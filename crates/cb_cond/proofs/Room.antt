@@ -6,7 +6,7 @@ use Rattle.cb_cond.specs.declared.symbol.Operator.TheVariants.{Add, Subtract}
 use Rattle.cb_cond.specs.declared.symbol.Prefix.{Prefix}
 use Rattle.cb_cond.specs.declared.symbol.Symbol.{Symbol}
 use Rattle.cb_cond.specs.declared.symbol.Symbol.TheVariants.{Number, Between, Exclamation, Tilde, OpenParenthesis, CloseParenthesis, Question, Colon}
-use Rattle.cb_cond.specs.Grammar.{Tree, level}
+use Rattle.cb_cond.specs.Grammar.{Expression, level}
 use Rattle.cb_cond.specs.Faults.{is_open, is_close, is_question}
 use Rattle.cb_cond.proofs.Reading.{Place, Left, Inside, Asked, Answered, Reading, Awaits, Has, Failed, ends, joined, Closed, collapse, awaiting, answered, closed, holding, step, run}
 use Rattle.cb_cond.proofs.Complete.{Stays, level-above, level-below}
@@ -78,7 +78,7 @@ counts-if : (v : Bool) (r s : Closed) (fs : List Place) → Counts fs r.places �
 counts-if true r s fs h k = h
 counts-if false r s fs h k = k
 
-counts-collapse : (k : ℕ) (fs : List Place) (a : Tree) → Counts fs (collapse k fs a).places
+counts-collapse : (k : ℕ) (fs : List Place) (a : Expression) → Counts fs (collapse k fs a).places
 unfolding collapse ends insides asks
 counts-collapse k [] a = record { same = refl; fewer = omega arith }
 counts-collapse k (Left o b ∷ fs) a =
@@ -120,7 +120,7 @@ counted-awaiting fs ps ss Tilde h = holds-from fs fs ss Tilde 0 0 0 refl refl re
 counted-awaiting fs ps ss OpenParenthesis h = holds-from fs (Inside ps ∷ fs) ss OpenParenthesis 1 0 0 refl refl refl h (omega arith) (omega arith)
 counted-awaiting fs ps ss _ h = tt
 
-counted-answered : (fs gs : List Place) (b : Tree) (ss : List Symbol) → Counts fs gs → Holds fs ss → Counted (answered gs b) (ss ++ Colon ∷ [])
+counted-answered : (fs gs : List Place) (b : Expression) (ss : List Symbol) → Counts fs gs → Holds fs ss → Counted (answered gs b) (ss ++ Colon ∷ [])
 unfolding Counted answered is_open is_close is_question insides asks
 counted-answered fs [] b ss c h = tt
 counted-answered fs (Left o a ∷ gs) b ss c h = tt
@@ -129,7 +129,7 @@ counted-answered fs (Asked a ∷ gs) b ss c h =
     holds-from fs (Answered a b ∷ gs) ss Colon 0 0 0 refl refl refl h (omega (arith, c.same)) (omega (arith, c.fewer))
 counted-answered fs (Answered a d ∷ gs) b ss c h = tt
 
-counted-closed : (fs gs : List Place) (a : Tree) (ss : List Symbol) → Counts fs gs → Holds fs ss → Counted (closed gs a) (ss ++ CloseParenthesis ∷ [])
+counted-closed : (fs gs : List Place) (a : Expression) (ss : List Symbol) → Counts fs gs → Holds fs ss → Counted (closed gs a) (ss ++ CloseParenthesis ∷ [])
 unfolding Counted closed is_open is_close is_question insides asks
 counted-closed fs [] a ss c h = tt
 counted-closed fs (Left o b ∷ gs) a ss c h = tt
@@ -138,7 +138,7 @@ counted-closed fs (Inside ps ∷ gs) a ss c h =
 counted-closed fs (Asked b ∷ gs) a ss c h = tt
 counted-closed fs (Answered b d ∷ gs) a ss c h = tt
 
-counted-holding : (fs : List Place) (a : Tree) (ss : List Symbol) (s : Symbol) → Holds fs ss → Counted (holding fs a s) (ss ++ s ∷ [])
+counted-holding : (fs : List Place) (a : Expression) (ss : List Symbol) (s : Symbol) → Holds fs ss → Counted (holding fs a s) (ss ++ s ∷ [])
 unfolding Counted holding is_open is_close is_question insides asks
 counted-holding fs a ss (Between o) h =
     let c = counts-collapse (level o) fs a in

@@ -7,7 +7,7 @@ use Rattle.cb_cond.specs.declared.meaning.Value.{Value}
 use Rattle.cb_cond.specs.declared.meaning.Value.TheVariants.{Bits, ZeroDivisor, Shift}
 use Rattle.cb_cond.specs.declared.prefixes.Prefixes.{Prefixes}
 use Rattle.cb_cond.specs.declared.prefixes.Prefixes.TheVariants.{Linear, Test}
-use Rattle.cb_cond.specs.Prefixes.{linear, extended, applied}
+use Rattle.cb_cond.specs.inner.Prefixes.{linear, extended, applied}
 use Rattle.cb_cond.specs.Values.{unary, prefix_is_unsigned, prefix_value, after_left, wrapped, truth}
 
 -- the bits of a value

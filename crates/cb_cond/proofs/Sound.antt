@@ -7,7 +7,7 @@ use Rattle.cb_cond.specs.declared.symbol.Prefix.{Prefix}
 use Rattle.cb_cond.specs.declared.symbol.Prefix.TheVariants.{Not, Complement, Plus, Minus}
 use Rattle.cb_cond.specs.declared.symbol.Symbol.{Symbol}
 use Rattle.cb_cond.specs.declared.symbol.Symbol.TheVariants.{Number, Between, Exclamation, Tilde, OpenParenthesis, CloseParenthesis, Question, Colon, WideInteger, Stray}
-use Rattle.cb_cond.specs.Grammar.{Tree, Leaf, Parens, Unary, Binary, Choose, level, prefix_symbol, spelling, StandsAt, IsCondition}
+use Rattle.cb_cond.specs.Grammar.{Expression, Leaf, Parens, Unary, Binary, Choose, level, prefix_symbol, spelling, StandsAt, IsCondition}
 use Rattle.cb_cond.proofs.Reading.{Place, Left, Inside, Asked, Answered, Reading, Awaits, Has, Failed, unaries, ends, joined, Closed, collapse, awaiting, answered, closed, holding, step, run, whole, ended, outcome}
 use Rattle.cb_cond.proofs.Complete.{Stays, Stays-always, level-above, level-below, collapse-ends, collapse-stops}
 
@@ -32,7 +32,7 @@ Sound (Inside ps ∷ fs) = Sound fs
 Sound (Asked a ∷ fs) = StandsAt a 1 × Stays 0 fs × Sound fs
 Sound (Answered a b ∷ fs) = StandsAt a 1 × StandsAt b 0 × Stays 0 fs × Sound fs
 
-StandsAt-less : (t : Tree) (m n : ℕ) → n ≤ m → StandsAt t m → StandsAt t n
+StandsAt-less : (t : Expression) (m n : ℕ) → n ≤ m → StandsAt t m → StandsAt t n
 unfolding StandsAt
 StandsAt-less (Leaf x u) m n l h = tt
 StandsAt-less (Parens a) m n l h = h
@@ -48,18 +48,18 @@ Stays-none (Inside ps ∷ fs) h = tt
 Stays-none (Asked a ∷ fs) h = tt
 Stays-none (Answered a b ∷ fs) h = tt
 
-StandsAt-unaries : (ps : List Prefix) (t : Tree) → StandsAt t 12 → StandsAt (unaries ps t) 12
+StandsAt-unaries : (ps : List Prefix) (t : Expression) → StandsAt t 12 → StandsAt (unaries ps t) 12
 unfolding StandsAt unaries
 StandsAt-unaries [] t h = h
 StandsAt-unaries (p ∷ ps) t h = StandsAt-unaries ps (Unary p t) h
 
-spelling-unaries : (ps : List Prefix) (t : Tree) → spelling (unaries ps t) ≡ prefixes ps ++ spelling t
+spelling-unaries : (ps : List Prefix) (t : Expression) → spelling (unaries ps t) ≡ prefixes ps ++ spelling t
 unfolding spelling unaries prefixes
 spelling-unaries [] t = refl
 spelling-unaries (p ∷ ps) t = spelling-unaries ps (Unary p t) ∙ sym (append_assoc (prefixes ps) (prefix_symbol p ∷ []) (spelling t))
 
 -- what a collapse leaves
-pub record Kept (k : ℕ) (fs : List Place) (a : Tree) (r : Closed) : Type 0 where
+pub record Kept (k : ℕ) (fs : List Place) (a : Expression) (r : Closed) : Type 0 where
   sound : Sound r.places
   stands : StandsAt r.tree k
   stays : Stays k r.places
@@ -74,21 +74,21 @@ leb-is_not m n h = grind (arith, nat_tests)
 eqb-is : (m n : ℕ) → eqb m n ≡ true → m ≡ n
 eqb-is m n h = grind (arith, nat_tests)
 
-written-left : (o : Operator) (a b : Tree) (fs : List Place) → written fs ++ spelling (Binary o a b) ≡ written (Left o a ∷ fs) ++ spelling b
+written-left : (o : Operator) (a b : Expression) (fs : List Place) → written fs ++ spelling (Binary o a b) ≡ written (Left o a ∷ fs) ++ spelling b
 unfolding written spelling
 written-left o a b fs = simp append_assoc
 
-written-answered : (a b c : Tree) (fs : List Place) → written fs ++ spelling (Choose a b c) ≡ written (Answered a b ∷ fs) ++ spelling c
+written-answered : (a b c : Expression) (fs : List Place) → written fs ++ spelling (Choose a b c) ≡ written (Answered a b ∷ fs) ++ spelling c
 unfolding written spelling
 written-answered a b c fs = simp append_assoc
 
-Kept-along : (k : ℕ) (fs gs : List Place) (a b : Tree) (r : Closed) → written gs ++ spelling b ≡ written fs ++ spelling a → Kept k gs b r → Kept k fs a r
+Kept-along : (k : ℕ) (fs gs : List Place) (a b : Expression) (r : Closed) → written gs ++ spelling b ≡ written fs ++ spelling a → Kept k gs b r → Kept k fs a r
 Kept-along k fs gs a b r e h = record { sound = h.sound; stands = h.stands; stays = h.stays; spelled = h.spelled ∙ e }
 
-Kept-at : (k : ℕ) (fs : List Place) (a : Tree) (r s : Closed) → s ≡ r → Kept k fs a r → Kept k fs a s
+Kept-at : (k : ℕ) (fs : List Place) (a : Expression) (r s : Closed) → s ≡ r → Kept k fs a r → Kept k fs a s
 Kept-at k fs a r s e h = rw e h
 
-keeps-left : (k j : ℕ) (o : Operator) (b a : Tree) (fs : List Place) → Sound (Left o b ∷ fs) → level o < j → StandsAt a j → k ≤ j
+keeps-left : (k j : ℕ) (o : Operator) (b a : Expression) (fs : List Place) → Sound (Left o b ∷ fs) → level o < j → StandsAt a j → k ≤ j
     → (k ≤ level o → StandsAt (Binary o b a) (level o) → Kept k fs (Binary o b a) (collapse k fs (Binary o b a)))
     → (v : Bool) → leb k (level o) ≡ v → Kept k (Left o b ∷ fs) a (collapse k (Left o b ∷ fs) a)
 unfolding Sound Stays StandsAt ends joined
@@ -101,7 +101,7 @@ keeps-left k j o b a fs s t h l ih false e =
     Kept-at k (Left o b ∷ fs) a _ _ (collapse-stops k (Left o b) fs a e)
     (record { sound = s; stands = StandsAt-less a j k l h; stays = n; spelled = refl })
 
-keeps-answered : (k j : ℕ) (b c a : Tree) (fs : List Place) → Sound (Answered b c ∷ fs) → StandsAt a j → k ≤ j
+keeps-answered : (k j : ℕ) (b c a : Expression) (fs : List Place) → Sound (Answered b c ∷ fs) → StandsAt a j → k ≤ j
     → (k ≡ 0 → StandsAt (Choose b c a) 0 → Kept k fs (Choose b c a) (collapse k fs (Choose b c a)))
     → (v : Bool) → eqb k 0 ≡ v → Kept k (Answered b c ∷ fs) a (collapse k (Answered b c ∷ fs) a)
 unfolding Sound Stays StandsAt ends joined
@@ -113,7 +113,7 @@ keeps-answered k j b c a fs s h l ih false e =
     Kept-at k (Answered b c ∷ fs) a _ _ (collapse-stops k (Answered b c) fs a e)
     (record { sound = s; stands = StandsAt-less a j k l h; stays = tt; spelled = refl })
 
-keeps : (k j : ℕ) (fs : List Place) (a : Tree) → Sound fs → Stays j fs → StandsAt a j → k ≤ j → Kept k fs a (collapse k fs a)
+keeps : (k j : ℕ) (fs : List Place) (a : Expression) → Sound fs → Stays j fs → StandsAt a j → k ≤ j → Kept k fs a (collapse k fs a)
 unfolding Sound Stays collapse ends
 keeps k j [] a s t h l = record { sound = tt; stands = StandsAt-less a j k l h; stays = tt; spelled = refl }
 keeps k j (Left o b ∷ fs) a s t h l =
@@ -132,7 +132,7 @@ Good Failed ss = Unit {0}
 behind : (ss xs ys : List Symbol) (s : Symbol) → ss ≡ xs ++ ys → ss ++ s ∷ [] ≡ xs ++ (ys ++ s ∷ [])
 behind ss xs ys s e = rw e (append_assoc xs ys (s ∷ []))
 
-good-operand : (fs : List Place) (ps : List Prefix) (t : Tree) (ss ts : List Symbol) → Sound fs → StandsAt t 12 → ss ≡ written fs ++ (prefixes ps ++ spelling t) → Good (Has fs (unaries ps t)) ss
+good-operand : (fs : List Place) (ps : List Prefix) (t : Expression) (ss ts : List Symbol) → Sound fs → StandsAt t 12 → ss ≡ written fs ++ (prefixes ps ++ spelling t) → Good (Has fs (unaries ps t)) ss
 unfolding Good
 good-operand fs ps t ss ts s h e = (s, StandsAt-unaries ps t h, e ∙ ap (λ w. written fs ++ w) (sym (spelling-unaries ps t)))
 
@@ -151,11 +151,11 @@ good-awaiting fs ps ss OpenParenthesis h e = (h, behind ss (written fs) (prefixe
 good-awaiting fs ps ss _ h e = tt
 
 -- what stands before the symbol that ends places
-before : (k : ℕ) (fs : List Place) (a : Tree) (ss : List Symbol) (s : Symbol) → Kept k fs a (collapse k fs a) → ss ≡ written fs ++ spelling a
+before : (k : ℕ) (fs : List Place) (a : Expression) (ss : List Symbol) (s : Symbol) → Kept k fs a (collapse k fs a) → ss ≡ written fs ++ spelling a
     → ss ++ s ∷ [] ≡ written (collapse k fs a).places ++ (spelling (collapse k fs a).tree ++ s ∷ [])
 before k fs a ss s h e = behind ss _ _ s (e ∙ sym h.spelled)
 
-good-answered : (fs : List Place) (b : Tree) (ss : List Symbol) → Sound fs → StandsAt b 0 → ss ≡ written fs ++ (spelling b ++ Colon ∷ []) → Good (answered fs b) ss
+good-answered : (fs : List Place) (b : Expression) (ss : List Symbol) → Sound fs → StandsAt b 0 → ss ≡ written fs ++ (spelling b ++ Colon ∷ []) → Good (answered fs b) ss
 unfolding answered Good Sound written prefixes
 good-answered [] b ss h k e = tt
 good-answered (Left o a ∷ fs) b ss h k e = tt
@@ -163,7 +163,7 @@ good-answered (Inside ps ∷ fs) b ss h k e = tt
 good-answered (Asked a ∷ fs) b ss h k e = ((h.0, k, h.1, h.2), e ∙ simp append_assoc)
 good-answered (Answered a c ∷ fs) b ss h k e = tt
 
-good-closed : (fs : List Place) (a : Tree) (ss : List Symbol) → Sound fs → StandsAt a 0 → ss ≡ written fs ++ (spelling a ++ CloseParenthesis ∷ []) → Good (closed fs a) ss
+good-closed : (fs : List Place) (a : Expression) (ss : List Symbol) → Sound fs → StandsAt a 0 → ss ≡ written fs ++ (spelling a ++ CloseParenthesis ∷ []) → Good (closed fs a) ss
 unfolding closed Sound written StandsAt spelling
 good-closed [] a ss h k e = unfold Good in tt
 good-closed (Left o b ∷ fs) a ss h k e = unfold Good in tt
@@ -171,7 +171,7 @@ good-closed (Inside ps ∷ fs) a ss h k e = good-operand fs ps (Parens a) ss [] 
 good-closed (Asked b ∷ fs) a ss h k e = unfold Good in tt
 good-closed (Answered b c ∷ fs) a ss h k e = unfold Good in tt
 
-good-holding : (fs : List Place) (a : Tree) (ss : List Symbol) (s : Symbol) → Sound fs → StandsAt a 12 → ss ≡ written fs ++ spelling a → Good (holding fs a s) (ss ++ s ∷ [])
+good-holding : (fs : List Place) (a : Expression) (ss : List Symbol) (s : Symbol) → Sound fs → StandsAt a 12 → ss ≡ written fs ++ spelling a → Good (holding fs a s) (ss ++ s ∷ [])
 unfolding holding Good Sound written prefixes
 good-holding fs a ss (Number n u) h k e = tt
 good-holding fs a ss (Between o) h k e =
@@ -203,12 +203,12 @@ unfolding run
 good-run [] ss r h = rw append-nil h
 good-run (t ∷ ts) ss r h = rw (← append_assoc ss (t ∷ []) ts) (good-run ts (ss ++ t ∷ []) (step r t) (good-step r ss t h))
 
-condition-whole : (fs : List Place) (a t : Tree) (ss : List Symbol) → StandsAt a 0 → written fs ++ spelling a ≡ ss → whole fs a ≡ Some t → IsCondition ss t
+condition-whole : (fs : List Place) (a t : Expression) (ss : List Symbol) → StandsAt a 0 → written fs ++ spelling a ≡ ss → whole fs a ≡ Some t → IsCondition ss t
 unfolding whole written
-condition-whole [] a t ss h e w = let same : a ≡ t = cc in let P : Tree → Type 0 = λ x. IsCondition ss x in subst P same (record { stands = h; spelled = sym e })
+condition-whole [] a t ss h e w = let same : a ≡ t = cc in let P : Expression → Type 0 = λ x. IsCondition ss x in subst P same (record { stands = h; spelled = sym e })
 condition-whole (f ∷ fs) a t ss h e w = cc
 
-condition-ended : (r : Reading) (t : Tree) (ss : List Symbol) → Good r ss → ended r ≡ Some t → IsCondition ss t
+condition-ended : (r : Reading) (t : Expression) (ss : List Symbol) → Good r ss → ended r ≡ Some t → IsCondition ss t
 unfolding ended Good
 condition-ended (Awaits fs ps) t ss h w = cc
 condition-ended (Has fs a) t ss h w =
@@ -217,6 +217,6 @@ condition-ended (Has fs a) t ss h w =
 condition-ended Failed t ss h w = cc
 
 -- what is read as a tree is a condition with that tree
-pub condition : (ss : List Symbol) (t : Tree) → outcome ss (Awaits [] []) ≡ Some t → IsCondition ss t
+pub condition : (ss : List Symbol) (t : Expression) → outcome ss (Awaits [] []) ≡ Some t → IsCondition ss t
 unfolding outcome Good Sound written prefixes
 condition ss t e = condition-ended (run ss (Awaits [] [])) t ss (good-run ss [] (Awaits [] []) (tt, refl)) e

@@ -8,7 +8,7 @@ use Rattle.cb_cond.specs.declared.meaning.Value.{Value}
 use Rattle.cb_cond.specs.declared.meaning.Value.TheVariants as values
 use Rattle.cb_cond.specs.declared.bad_condition.BadCondition.{BadCondition}
 use Rattle.cb_cond.specs.declared.bad_condition.BadCondition.TheVariants as bad
-use Rattle.cb_cond.specs.Grammar.{Tree, Leaf, Parens, Unary, Binary, Choose, prefix_symbol, spelling, IsCondition}
+use Rattle.cb_cond.specs.Grammar.{Expression, Leaf, Parens, Unary, Binary, Choose, prefix_symbol, spelling, IsCondition}
 use Rattle.cb_cond.specs.Values.{meaning}
 use Rattle.cb_cond.specs.Faults.{IsTooWide, IsAnswer}
 use Rattle.cb_cond.proofs.Complete.{one_tree}
@@ -31,7 +31,7 @@ IsNarrow-prefix Complement = λ e. cc
 IsNarrow-prefix Plus = λ e. cc
 IsNarrow-prefix Minus = λ e. cc
 
-IsNarrow-spelling : (t : Tree) → IsNarrow (spelling t)
+IsNarrow-spelling : (t : Expression) → IsNarrow (spelling t)
 unfolding IsNarrow spelling
 IsNarrow-spelling (Leaf n u) = (λ e. cc, tt)
 IsNarrow-spelling (Parens a) = (λ e. cc, IsNarrow-append (spelling a) (CloseParenthesis ∷ []) (IsNarrow-spelling a) (λ e. cc, tt))
@@ -48,10 +48,10 @@ narrow-at (s ∷ ss) zero h l e = h.0 e
 narrow-at (s ∷ ss) (suc k) h l e = narrow-at ss k h.1 (omega arith) e
 
 -- in a condition no integer is too wide
-narrow : (ss : List Symbol) (t : Tree) → IsCondition ss t → IsTooWide ss → ⊥
+narrow : (ss : List Symbol) (t : Expression) → IsCondition ss t → IsTooWide ss → ⊥
 narrow ss t c w = let P : List Symbol → Type 0 = IsNarrow in narrow-at ss w.0 (subst P (sym c.spelled) (IsNarrow-spelling t)) w.1 w.2
 
-same-value : (ss : List Symbol) (a b : Tree) (x y : Value) → IsCondition ss a → IsCondition ss b → (meaning a).value ≡ x → (meaning b).value ≡ y → x ≡ y
+same-value : (ss : List Symbol) (a b : Expression) (x y : Value) → IsCondition ss a → IsCondition ss b → (meaning a).value ≡ x → (meaning b).value ≡ y → x ≡ y
 same-value ss a b x y c d e f = sym e ∙ ap (λ t. (meaning t).value) (one_tree ss a b c d) ∙ f
 
 same-holds : (m n : ℕ) (v w : Bool) → values.Bits m ≡ values.Bits n → v ≡ not (m == 0) → w ≡ not (n == 0) → v ≡ w

@@ -1,16 +1,12 @@
 -- What is wrong with a condition, and which fault decides (6.10.1; the limits and the order are own).
-use Rattle.std.specs.Prelude.{◌≡◌, ◌==◌, ℕ, ◌+◌, ◌*◌, ◌<◌, ◌≤◌, ◌⊎◌, Bool, true, false, not, List, take, Result, Ok, Err, Option, Some, None, if◌then◌else◌, codes}
+use Rattle.std.specs.Prelude.{◌≡◌, ◌==◌, ℕ, ◌+◌, ◌<◌, ◌⊎◌, Bool, true, false, not, List, take, Result, Ok, Err, codes}
 use Rattle.std.specs.List.{count_by, Contains}
 use Rattle.cb_cond.specs.declared.symbol.Symbol.{Symbol}
 use Rattle.cb_cond.specs.declared.symbol.Symbol.TheVariants.{OpenParenthesis, CloseParenthesis, Question, WideInteger}
 use Rattle.cb_cond.specs.declared.meaning.Value.TheVariants as values
-use Rattle.cb_cond.specs.declared.meaning.Meaning.{Meaning}
 use Rattle.cb_cond.specs.declared.bad_condition.BadCondition.{BadCondition}
 use Rattle.cb_cond.specs.declared.bad_condition.BadCondition.TheVariants as bad
-use Rattle.cb_cond.specs.declared.nesting.Slack.{Slack}
-use Rattle.cb_cond.specs.declared.evaluation.Attempt.{Attempt}
-use Rattle.cb_cond.specs.declared.evaluation.Attempt.TheVariants.{Read, Crowded}
-use Rattle.cb_cond.specs.Grammar.{Tree, IsCondition}
+use Rattle.cb_cond.specs.Grammar.{Expression, IsCondition}
 use Rattle.cb_cond.specs.Values.{meaning}
 
 -- an open parenthesis (6.5.1)
@@ -42,37 +38,19 @@ IsTooWide ss = Contains ss WideInteger
 abbrev pub IsAnswer : List Symbol → Result Bool BadCondition → Type 0
 IsAnswer ss (Err bad.TooDeep) = IsTooDeep ss
 IsAnswer ss (Err bad.TooWide) = (¬ (IsTooDeep ss)) × IsTooWide ss
-IsAnswer ss (Err bad.Malformed) = (¬ (IsTooDeep ss)) × (¬ (IsTooWide ss)) × ((tree : Tree) → ¬ (IsCondition ss tree))
-IsAnswer ss (Err bad.ZeroDivisor) = (¬ (IsTooDeep ss)) × ((tree : Tree) × IsCondition ss tree × ((meaning tree).value ≡ values.ZeroDivisor))
-IsAnswer ss (Err bad.Shift) = (¬ (IsTooDeep ss)) × ((tree : Tree) × IsCondition ss tree × ((meaning tree).value ≡ values.Shift))
+IsAnswer ss (Err bad.Malformed) = (¬ (IsTooDeep ss)) × (¬ (IsTooWide ss)) × ((tree : Expression) → ¬ (IsCondition ss tree))
+IsAnswer ss (Err bad.ZeroDivisor) = (¬ (IsTooDeep ss)) × ((tree : Expression) × IsCondition ss tree × ((meaning tree).value ≡ values.ZeroDivisor))
+IsAnswer ss (Err bad.Shift) = (¬ (IsTooDeep ss)) × ((tree : Expression) × IsCondition ss tree × ((meaning tree).value ≡ values.Shift))
 IsAnswer ss (Ok holds) =
-    (¬ (IsTooDeep ss)) × ((tree : Tree) × (bits : ℕ) × IsCondition ss tree × ((meaning tree).value ≡ values.Bits bits) × (holds ≡ not (bits == 0)))
+    (¬ (IsTooDeep ss)) × ((tree : Expression) × (bits : ℕ) × IsCondition ss tree × ((meaning tree).value ≡ values.Bits bits) × (holds ≡ not (bits == 0)))
 
--- a room of n frames is enough: each level of operators may wait once in each open parenthesis, and no operator waits in a
--- condition in front of a question mark (own; no public clause rests on it)
-abbrev pub HasRoom : List Symbol → ℕ → Type 0
-HasRoom ss n =
-    (deepest : ℕ) × ((k : ℕ) → count_by is_open (take k ss) ≤ count_by is_close (take k ss) + deepest)
-    × (11 * deepest + count_by is_question ss + 11 ≤ n)
-
--- what a list of symbols is read as: the meaning of its tree, or nothing where it has none
-abbrev pub IsReadAs : List Symbol → Option Meaning → Type 0
-IsReadAs ss None = (tree : Tree) → ¬ (IsCondition ss tree)
-IsReadAs ss (Some m) = (tree : Tree) × IsCondition ss tree × (m ≡ meaning tree)
-
--- what came of reading symbols in a room of n frames (own; no public clause rests on it)
-abbrev pub IsAttempt : List Symbol → ℕ → Attempt → Type 0
-IsAttempt ss n (Read o) = IsReadAs ss o
-IsAttempt ss n Crowded = ¬ (HasRoom ss n)
-
--- the symbol opens more than what may still be opened (own; no public clause rests on it)
-abbrev pub IsSpent : Slack → Symbol → Type 0
-IsSpent slack s = ((is_open s ≡ true) × (slack.parentheses ≡ 0)) ⊎ ((is_question s ≡ true) × (slack.questions ≡ 0))
-
--- what may still be opened behind a symbol (own; no public clause rests on it)
-pub record IsSlackBehind (slack : Slack) (s : Symbol) (behind : Slack) : Type 0 where
-  pub parentheses : behind.parentheses + (if is_open s then 1 else 0) ≡ slack.parentheses + (if is_close s then 1 else 0)
-  pub questions : behind.questions + (if is_question s then 1 else 0) ≡ slack.questions
+-- the number of a fault (own)
+abbrev pub fault_number : BadCondition → ℕ
+fault_number bad.Malformed = 1
+fault_number bad.ZeroDivisor = 2
+fault_number bad.Shift = 3
+fault_number bad.TooWide = 4
+fault_number bad.TooDeep = 5
 
 -- the name of a fault (own)
 abbrev pub fault_name : BadCondition → List ℕ

@@ -8,12 +8,12 @@ use Rattle.cb_cond.specs.declared.symbol.Symbol.{Symbol}
 use Rattle.cb_cond.specs.declared.symbol.Symbol.TheVariants.{Number, Between, Exclamation, Tilde, OpenParenthesis, CloseParenthesis, Question, Colon}
 
 -- a syntax tree, with its parentheses (6.5)
-pub data Tree : Type 0 where
-  Leaf : (n : ℕ) (unsigned : Bool) → Tree
-  Parens : Tree → Tree
-  Unary : Prefix → Tree → Tree
-  Binary : Operator → Tree → Tree → Tree
-  Choose : Tree → Tree → Tree → Tree
+pub data Expression : Type 0 where
+  Leaf : (n : ℕ) (unsigned : Bool) → Expression
+  Parens : Expression → Expression
+  Unary : Prefix → Expression → Expression
+  Binary : Operator → Expression → Expression → Expression
+  Choose : Expression → Expression → Expression → Expression
 
 -- how an operator before its operand is spelled (6.5.3)
 unfoldable pub prefix_symbol : Prefix → Symbol
@@ -23,7 +23,7 @@ prefix_symbol Plus = Between Add
 prefix_symbol Minus = Between Subtract
 
 -- the symbols that a tree spells (6.5)
-unfoldable pub spelling : Tree → List Symbol
+unfoldable pub spelling : Expression → List Symbol
 spelling (Leaf n unsigned) = Number n unsigned ∷ []
 spelling (Parens a) = OpenParenthesis ∷ (spelling a ++ CloseParenthesis ∷ [])
 spelling (Unary p a) = prefix_symbol p ∷ spelling a
@@ -53,7 +53,7 @@ level Remainder = 11
 
 -- the tree is of the production of this level or of a tighter one: 0 a conditional expression, 1 what stands before its
 -- question mark, 2 a logical OR, .. 11 a product, 12 a unary expression; chains group to the left (6.5.3 to 6.5.15)
-unfoldable pub StandsAt : Tree → ℕ → Type 0
+unfoldable pub StandsAt : Expression → ℕ → Type 0
 StandsAt (Leaf n unsigned) k = Unit {0}
 StandsAt (Parens a) k = StandsAt a 0
 StandsAt (Unary p a) k = StandsAt a 12
@@ -61,6 +61,6 @@ StandsAt (Binary o a b) k = (k ≤ level o) × StandsAt a (level o) × StandsAt 
 StandsAt (Choose a b c) k = (k ≡ 0) × StandsAt a 1 × StandsAt b 0 × StandsAt c 0
 
 -- the symbols are a conditional expression with this tree (6.10.1, paragraph 4)
-pub record IsCondition (symbols : List Symbol) (tree : Tree) : Type 0 where
+pub record IsCondition (symbols : List Symbol) (tree : Expression) : Type 0 where
   pub stands : StandsAt tree 0
   pub spelled : symbols ≡ spelling tree

@@ -4,7 +4,6 @@ pub mod Words
 pub mod Integers
 pub mod Characters
 pub mod Symbols
-pub mod Prefixes
-pub mod Frames
 pub mod Faults
 pub mod Parts
+pub mod inner

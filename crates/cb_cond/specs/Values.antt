@@ -9,7 +9,7 @@ use Rattle.cb_cond.specs.declared.symbol.Prefix.TheVariants.{Not, Complement, Pl
 use Rattle.cb_cond.specs.declared.meaning.Value.{Value}
 use Rattle.cb_cond.specs.declared.meaning.Value.TheVariants.{Bits, ZeroDivisor, Shift}
 use Rattle.cb_cond.specs.declared.meaning.Meaning.{Meaning}
-use Rattle.cb_cond.specs.Grammar.{Tree, Leaf, Parens, Unary, Binary, Choose}
+use Rattle.cb_cond.specs.Grammar.{Expression, Leaf, Parens, Unary, Binary, Choose}
 
 -- the type of an operator's result, by those of its operands: a shift has that of its left operand, a comparison and a
 -- logical operator are signed, and any other is unsigned where an operand is (6.3.1.8, 6.5.5 to 6.5.14)
@@ -140,7 +140,7 @@ unfoldable pub choose : Meaning → Meaning → Meaning → Meaning
 choose a b c = record { unsigned = b.unsigned || c.unsigned; value = chosen_value a.value b.value c.value }
 
 -- the type and the value of a tree (6.5)
-unfoldable pub meaning : Tree → Meaning
+unfoldable pub meaning : Expression → Meaning
 meaning (Leaf n unsigned) = record { unsigned = unsigned; value = wrapped (Bits n) }
 meaning (Parens a) = meaning a
 meaning (Unary p a) = unary p (meaning a)

@@ -9,23 +9,36 @@ use thiserror::Error;
 pub enum BadCondition {
     /// The tokens are no conditional expression.
     #[error("the tokens are no conditional expression")]
-    Malformed = 1,
+    Malformed,
     /// A divisor is 0.
     #[error("a divisor is 0")]
-    ZeroDivisor = 2,
+    ZeroDivisor,
     /// A value is shifted by a negative number, or by 64 or more.
     #[error("a value is shifted by a negative number, or by 64 or more")]
-    Shift = 3,
+    Shift,
     /// An integer is 2^64 or more.
     #[error("an integer is 2^64 or more")]
-    TooWide = 4,
+    TooWide,
     /// More than 256 parentheses are open at once, or there are more than 256 question marks.
     #[error("more than 256 parentheses are open at once, or there are more than 256 question marks")]
-    TooDeep = 5,
+    TooDeep,
 }
 
 impl BadCondition {
-    ghost use Rattle.cb_cond.specs.Faults.{fault_name};
+    ghost use Rattle.cb_cond.specs.Faults.{fault_name, fault_number};
+
+    /// The number of the fault, from 1.
+    pub fn number(&self) -> u32
+        ensures { result ≡ fault_number self.now }
+    {
+        match self {
+            BadCondition::Malformed => 1,
+            BadCondition::ZeroDivisor => 2,
+            BadCondition::Shift => 3,
+            BadCondition::TooWide => 4,
+            BadCondition::TooDeep => 5,
+        }
+    }
 
     /// The name of the fault.
     pub fn name(&self) -> &'static str

@@ -1,8 +1,5 @@
 //! Whether a condition holds.
-ghost use Rattle.std.specs.Prelude.{◌≡◌, Bool, true, false, Result};
-ghost use Rattle.cb_cond.specs.declared.bad_condition.BadCondition.{BadCondition};
-ghost use Rattle.cb_cond.specs.Integers.{ReadsEachInteger, ReadsOnlyIntegers};
-ghost use Rattle.cb_cond.specs.Grammar.{Tree, IsCondition};
+ghost use Rattle.std.specs.Prelude.{◌≡◌, true, false};
 ghost use Rattle.cb_cond.specs.Parts.{tokens_of, left};
 ghost use Rattle.cb_cond.specs.Symbols.{symbols};
 ghost use Rattle.cb_cond.specs.Faults.{IsAnswer, IsTooWide};
@@ -56,13 +53,8 @@ fn answer(rest: Rest, language: Language) -> Result<bool, BadCondition>
 /// It holds where the value of its syntax tree is not 0. `TooDeep` is answered before `TooWide`, which is answered
 /// before `Malformed`; `ZeroDivisor` or `Shift` is what evaluation from the left meets first. An operand that is not
 /// evaluated, as the right one of `0 && 1 / 0`, makes no fault. No memory is taken.
-#[tactic(auto, using(crate::proofs::Unique::exact))]
 pub fn value(tokens: &[Token], language: Language) -> Result<bool, BadCondition>
-    ensures answer { IsAnswer (symbols language tokens.now) result }
-    ensures one_answer { (a b : Result Bool BadCondition) → IsAnswer (symbols language tokens.now) a → IsAnswer (symbols language tokens.now) b → a ≡ b }
-    ensures one_tree { (a b : Tree) → IsCondition (symbols language tokens.now) a → IsCondition (symbols language tokens.now) b → a ≡ b }
-    ensures each_integer { ReadsEachInteger }
-    ensures only_integers { ReadsOnlyIntegers }
+    ensures { IsAnswer (symbols language tokens.now) result }
 {
     answer(Rest::of_list(tokens), language)
 }
@@ -72,16 +64,11 @@ pub fn value(tokens: &[Token], language: Language) -> Result<bool, BadCondition>
 ///
 /// The answer is that of `value` for one list of the same tokens. A part may be empty, and a part may end anywhere, as
 /// within parentheses. No memory is taken.
-#[tactic(auto, using(crate::proofs::Unique::exact))]
 pub fn value_of_parts<'a>(
     parts: &'a [&'a [Token]],
     language: Language,
 ) -> Result<bool, BadCondition>
-    ensures answer { IsAnswer (symbols language (tokens_of parts.now)) result }
-    ensures one_answer { (a b : Result Bool BadCondition) → IsAnswer (symbols language (tokens_of parts.now)) a → IsAnswer (symbols language (tokens_of parts.now)) b → a ≡ b }
-    ensures one_tree { (a b : Tree) → IsCondition (symbols language (tokens_of parts.now)) a → IsCondition (symbols language (tokens_of parts.now)) b → a ≡ b }
-    ensures each_integer { ReadsEachInteger }
-    ensures only_integers { ReadsOnlyIntegers }
+    ensures { IsAnswer (symbols language (tokens_of parts.now)) result }
 {
     answer(Rest::of_parts(parts), language)
 }

@@ -2,7 +2,8 @@
 ghost use Rattle.std.specs.Prelude.{length};
 ghost use Rattle.cb_cond.specs.Parts.{left};
 ghost use Rattle.cb_cond.specs.Symbols.{symbols};
-ghost use Rattle.cb_cond.specs.Faults.{HasRoom, IsTooDeep, IsReadAs, IsAttempt};
+ghost use Rattle.cb_cond.specs.Faults.{IsTooDeep};
+ghost use Rattle.cb_cond.specs.inner.Attempts.{HasRoom, IsReadAs, IsAttempt};
 
 use crate::frames::{Frame, Position, read_symbol, whole};
 use crate::meaning::Meaning;

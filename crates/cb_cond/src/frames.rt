@@ -3,7 +3,7 @@
 //! What waits for its end lies in frames, the innermost first: from `top` on in a slice whose front is free.
 ghost use Rattle.std.specs.Prelude.{◌≡◌, ℕ, ◌<◌, ◌≤◌, ◌∷◌, length, drop, IfSome};
 ghost use Rattle.cb_cond.specs.Grammar.{level};
-ghost use Rattle.cb_cond.specs.Frames.{ends, joined, closed, prefix_of, awaiting, holding, step, held_of, read_of, whole_of};
+ghost use Rattle.cb_cond.specs.inner.Frames.{ends, joined, closed, prefix_of, awaiting, holding, step, held_of, read_of, whole_of};
 
 use crate::meaning::{Meaning, Value};
 use crate::operations::{binary_meaning, choice_meaning};
@@ -48,7 +48,7 @@ pub(crate) struct Position {
 
 impl Position {
     /// Nothing was read: an operand is to come.
-    #[tactic(auto, unfolding(crate::specs::Frames::held_of))]
+    #[tactic(auto, unfolding(crate::specs::inner::Frames::held_of))]
     pub(crate) fn start(top: usize) -> Position
         ensures top { result.top ≡ top }
         ensures held { held_of result ≡ Held.Awaits Prefixes.NONE }
@@ -67,7 +67,7 @@ impl Position {
 
     /// An operand is to come behind a run of operators.
     #[inline(always)]
-    #[tactic(auto, unfolding(crate::specs::Frames::held_of))]
+    #[tactic(auto, unfolding(crate::specs::inner::Frames::held_of))]
     fn before(self, top: usize, run: Prefixes) -> Position
         ensures top { result.top ≡ top }
         ensures held { held_of result ≡ Held.Awaits run }
@@ -82,7 +82,7 @@ impl Position {
 
     /// An operand stands at the end.
     #[inline(always)]
-    #[tactic(auto, unfolding(crate::specs::Frames::held_of))]
+    #[tactic(auto, unfolding(crate::specs::inner::Frames::held_of))]
     fn behind(self, top: usize, operand: Meaning) -> Position
         ensures top { result.top ≡ top }
         ensures held { held_of result ≡ Held.Has operand }
@@ -97,7 +97,7 @@ impl Position {
 
     /// What stands at the end.
     #[inline(always)]
-    #[tactic(auto, unfolding(crate::specs::Frames::held_of))]
+    #[tactic(auto, unfolding(crate::specs::inner::Frames::held_of))]
     fn held(self) -> Held
         ensures { result ≡ held_of self }
     {
@@ -125,7 +125,7 @@ fn level_of(operator: Operator) -> u8
 impl Frame {
     /// Whether what binds at a level ends the frame.
     #[inline(always)]
-    #[tactic(auto, unfolding(crate::specs::Frames::ends))]
+    #[tactic(auto, unfolding(crate::specs::inner::Frames::ends))]
     fn ends_at(&self, level: u8) -> bool
         ensures { result ≡ ends level self.now }
     {
@@ -138,7 +138,7 @@ impl Frame {
 
     /// The frame with its last operand.
     #[inline(always)]
-    #[tactic(auto, unfolding(crate::specs::Frames::joined))]
+    #[tactic(auto, unfolding(crate::specs::inner::Frames::joined))]
     fn join(&self, operand: Meaning) -> Meaning
         ensures { result ≡ joined self.now operand }
     {
@@ -196,7 +196,7 @@ fn put(frames: &mut [Frame], position: Position, top: usize, frame: Frame) -> Po
 }
 
 /// The operator that a symbol is before an operand.
-#[tactic(auto, unfolding(crate::specs::Frames::prefix_of))]
+#[tactic(auto, unfolding(crate::specs::inner::Frames::prefix_of))]
 fn prefix_operator(symbol: Symbol) -> Option<Prefix>
     ensures { result ≡ prefix_of symbol }
 {
@@ -210,7 +210,7 @@ fn prefix_operator(symbol: Symbol) -> Option<Prefix>
 }
 
 /// Reads a symbol where an operand is to come.
-#[tactic(auto, using(crate::proofs::Closing::frame_steps), unfolding(crate::specs::Frames::awaiting, crate::specs::Frames::prefixed, crate::specs::Frames::opened, crate::specs::Frames::read_of))]
+#[tactic(auto, using(crate::proofs::Closing::frame_steps), unfolding(crate::specs::inner::Frames::awaiting, crate::specs::inner::Frames::prefixed, crate::specs::inner::Frames::opened, crate::specs::inner::Frames::read_of))]
 fn read_operand(
     frames: &mut [Frame],
     position: Position,
@@ -237,7 +237,7 @@ fn read_operand(
 }
 
 /// Reads a `:` behind a first branch.
-#[tactic(auto, unfolding(crate::specs::Frames::holding, crate::specs::Frames::answered, crate::specs::Frames::opened, crate::specs::Frames::read_of))]
+#[tactic(auto, unfolding(crate::specs::inner::Frames::holding, crate::specs::inner::Frames::answered, crate::specs::inner::Frames::opened, crate::specs::inner::Frames::read_of))]
 fn answer(frames: &mut [Frame], position: Position, operand: Meaning) -> Option<Position>
     requires { position.top ≤ length frames.old }
     ensures read { read_of frames.new result ≡ holding (drop position.top frames.old) operand Symbol.Colon }
@@ -254,7 +254,7 @@ fn answer(frames: &mut [Frame], position: Position, operand: Meaning) -> Option<
 }
 
 /// Reads a closing parenthesis.
-#[tactic(auto, unfolding(crate::specs::Frames::holding, crate::specs::Frames::parenthesized, crate::specs::Frames::read_of))]
+#[tactic(auto, unfolding(crate::specs::inner::Frames::holding, crate::specs::inner::Frames::parenthesized, crate::specs::inner::Frames::read_of))]
 fn leave(frames: &[Frame], position: Position, operand: Meaning) -> Option<Position>
     requires { position.top ≤ length frames.now }
     ensures read { read_of frames.now result ≡ holding (drop position.top frames.now) operand Symbol.CloseParenthesis }
@@ -271,7 +271,7 @@ fn leave(frames: &[Frame], position: Position, operand: Meaning) -> Option<Posit
 }
 
 /// Reads a symbol behind an operand.
-#[tactic(auto, unfolding(crate::specs::Frames::holding, crate::specs::Frames::answered, crate::specs::Frames::parenthesized, crate::specs::Frames::opened, crate::specs::Frames::read_of))]
+#[tactic(auto, unfolding(crate::specs::inner::Frames::holding, crate::specs::inner::Frames::answered, crate::specs::inner::Frames::parenthesized, crate::specs::inner::Frames::opened, crate::specs::inner::Frames::read_of))]
 fn read_behind(
     frames: &mut [Frame],
     position: Position,
@@ -299,7 +299,7 @@ fn read_behind(
 }
 
 /// Reads one symbol more.
-#[tactic(auto, unfolding(crate::specs::Frames::step))]
+#[tactic(auto, unfolding(crate::specs::inner::Frames::step))]
 pub(crate) fn read_symbol(
     frames: &mut [Frame],
     position: Position,
@@ -317,7 +317,7 @@ pub(crate) fn read_symbol(
 }
 
 /// The meaning of all that was read, where nothing waits for its end.
-#[tactic(auto, using(crate::proofs::Closing::frame_steps), unfolding(crate::specs::Frames::whole_of, crate::specs::Frames::alone))]
+#[tactic(auto, using(crate::proofs::Closing::frame_steps), unfolding(crate::specs::inner::Frames::whole_of, crate::specs::inner::Frames::alone))]
 pub(crate) fn whole(frames: &[Frame], position: Position) -> Option<Meaning>
     requires { position.top ≤ length frames.now }
     ensures { result ≡ whole_of (drop position.top frames.now) (held_of position) }

@@ -3,15 +3,19 @@ ghost use Rattle.std.specs.Prelude.{◌≡◌, Bool, List, Result};
 ghost use Rattle.cb_paths.specs.declared.language.Language.{Language as Tongue};
 ghost use Rattle.cb_tokens.specs.declared.token.Token.{Token};
 ghost use Rattle.cb_cond.specs.declared.bad_condition.BadCondition.{BadCondition};
-ghost use Rattle.cb_cond.specs.Grammar.{Tree, IsCondition};
+ghost use Rattle.cb_cond.specs.Integers.{ReadsEachInteger, ReadsOnlyIntegers};
+ghost use Rattle.cb_cond.specs.Grammar.{Expression, IsCondition};
 ghost use Rattle.cb_cond.specs.Symbols.{symbols};
 ghost use Rattle.cb_cond.specs.Faults.{IsAnswer};
 
-/// A condition has one tree at most, and one answer.
+/// A condition has one syntax tree at most, and one answer. Each integer of the grammar is read with its value, and nothing else is
+/// read as one.
 #[tactic(auto, using(crate::proofs::Unique::exact))]
 pub fn one_condition()
-    ensures tree { (language : Tongue) (tokens : List Token) (a b : Tree)
+    ensures expression { (language : Tongue) (tokens : List Token) (a b : Expression)
         → IsCondition (symbols language tokens) a → IsCondition (symbols language tokens) b → a ≡ b }
     ensures answer { (language : Tongue) (tokens : List Token) (a b : Result Bool BadCondition)
         → IsAnswer (symbols language tokens) a → IsAnswer (symbols language tokens) b → a ≡ b }
+    ensures each_integer { ReadsEachInteger }
+    ensures only_integers { ReadsOnlyIntegers }
 {}

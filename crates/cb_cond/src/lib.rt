@@ -16,8 +16,6 @@ mod rest;
 mod singles;
 mod symbol;
 mod symbols;
-#[cfg(test)]
-mod tests;
 mod words;
 
 pub use bad_condition::BadCondition;

@@ -3,7 +3,8 @@ ghost use Rattle.std.specs.Prelude.{◌≡◌, ◌+◌, ◌<◌, ◌^◌, true, 
 ghost use Rattle.cb_paths.specs.declared.language.Language.{Language};
 ghost use Rattle.cb_cond.specs.Parts.{left};
 ghost use Rattle.cb_cond.specs.Symbols.{symbols};
-ghost use Rattle.cb_cond.specs.Faults.{IsTooDeep, IsSpent, IsSlackBehind};
+ghost use Rattle.cb_cond.specs.Faults.{IsTooDeep};
+ghost use Rattle.cb_cond.specs.inner.Attempts.{IsSpent, IsSlackBehind};
 
 use crate::rest::Rest;
 use crate::symbol::Symbol;

@@ -1,6 +1,6 @@
 //! Runs of operators before an operand.
 ghost use Rattle.std.specs.Prelude.{◌≡◌};
-ghost use Rattle.cb_cond.specs.Prefixes.{linear, extended, applied};
+ghost use Rattle.cb_cond.specs.inner.Prefixes.{linear, extended, applied};
 
 use crate::meaning::{Meaning, Value};
 use crate::symbol::Prefix;
@@ -22,7 +22,7 @@ pub(crate) enum Prefixes {
 }
 
 /// A number, plus the operand or less it.
-#[tactic(auto, unfolding(crate::specs::Prefixes::linear))]
+#[tactic(auto, unfolding(crate::specs::inner::Prefixes::linear))]
 fn sum(negative: bool, plus: u64, operand: u64) -> u64
     ensures { result ≡ linear negative plus operand }
 {
@@ -41,7 +41,7 @@ impl Prefixes {
     };
 
     /// The run with one more operator, which stands next to the operand.
-    #[tactic(auto, unfolding(crate::specs::Prefixes::extended))]
+    #[tactic(auto, unfolding(crate::specs::inner::Prefixes::extended))]
     pub(crate) fn then(self, operator: Prefix) -> Prefixes
         ensures { result ≡ extended self operator }
     {
@@ -92,7 +92,7 @@ impl Prefixes {
     }
 
     /// What the run makes of its operand.
-    #[tactic(auto, unfolding(crate::specs::Prefixes::applied, crate::specs::Values::after_left))]
+    #[tactic(auto, unfolding(crate::specs::inner::Prefixes::applied, crate::specs::Values::after_left))]
     pub(crate) fn apply(self, operand: Meaning) -> Meaning
         ensures { result ≡ applied self operand }
     {

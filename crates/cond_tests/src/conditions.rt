@@ -1,8 +1,6 @@
 //! Conditions with the answers that the C standard's rules give.
-mod examples;
-
-use self::examples::{CXX_HOLDS, FAILS, HOLDS, IN_PARTS, MALFORMED, SHIFT, TOO_WIDE, ZERO_DIVISOR};
-use crate::{BadCondition, one_condition, value, value_of_parts};
+use crate::examples::{CXX_HOLDS, FAILS, HOLDS, IN_PARTS, MALFORMED, SHIFT, TOO_WIDE, ZERO_DIVISOR};
+use cb_cond::{BadCondition, one_condition, value, value_of_parts};
 use cb_paths::{Bytes, Language, NoMemory};
 use cb_tokens::{Token, TokenKind};
 use std::alloc::Global;
@@ -130,79 +128,81 @@ fn values_are_those_of_the_standard(rt: HostRuntime) -> Result<(), Fail> {
 
 #[test]
 fn faults_are_told(rt: HostRuntime) -> Result<(), Fail> {
-    let malformed = Err(BadCondition::Malformed);
-    each_answers(&rt, &MALFORMED, Language::C, malformed)?;
-    each_answers(
-        &rt,
-        &ZERO_DIVISOR,
-        Language::C,
-        Err(BadCondition::ZeroDivisor),
-    )?;
-    each_answers(&rt, &SHIFT, Language::C, Err(BadCondition::Shift))?;
-    each_answers(&rt, &TOO_WIDE, Language::C, Err(BadCondition::TooWide))?;
-    assert!(rt; value(&[], Language::C) == Err(BadCondition::Malformed));
-    assert!(rt; BadCondition::TooDeep.name() == "TooDeep");
+    let rows: [(&[&str], BadCondition); 4] = [
+        (&MALFORMED, BadCondition::Malformed),
+        (&ZERO_DIVISOR, BadCondition::ZeroDivisor),
+        (&SHIFT, BadCondition::Shift),
+        (&TOO_WIDE, BadCondition::TooWide),
+    ];
+    for (texts, fault) in rows {
+        each_answers(&rt, texts, Language::C, Err(fault))?;
+    }
+    Ok(())
+}
+
+#[test]
+fn faults_have_names(rt: HostRuntime) -> Result<(), Fail> {
+    for (fault, number, name) in [
+        (BadCondition::Malformed, 1, "Malformed"),
+        (BadCondition::ZeroDivisor, 2, "ZeroDivisor"),
+        (BadCondition::Shift, 3, "Shift"),
+        (BadCondition::TooWide, 4, "TooWide"),
+        (BadCondition::TooDeep, 5, "TooDeep"),
+    ] {
+        assert!(rt; fault.number() == number && fault.name() == name, "{name}");
+    }
     let text = format!(in rt.alloc(); "{}", BadCondition::ZeroDivisor)?;
-    assert_eq!(rt; text.as_str(), "a divisor is 0");
+    assert!(rt; text.as_str() == "a divisor is 0");
     Ok(())
 }
 
 #[test]
 fn parts_are_read_one_after_another(rt: HostRuntime) -> Result<(), Fail> {
     one_condition();
-    assert!(rt; value_of_parts(&[], Language::C) == Err(BadCondition::Malformed));
     for (text, expected) in IN_PARTS {
-        let found = answer_in_parts(rt.alloc(), text)?;
-        assert!(rt; found == expected, "{text}");
+        assert!(rt; answer_in_parts(rt.alloc(), text)? == expected, "{text}");
     }
-    let deep = answer_to_repeated(rt.alloc(), ("(", 257), "1")?;
-    assert_eq!(rt; deep, Err(BadCondition::TooDeep));
-    let open = answer_to_repeated(rt.alloc(), ("(", 256), "1")?;
-    assert_eq!(rt; open, Err(BadCondition::Malformed));
-    let questions = answer_to_repeated(rt.alloc(), ("0 ? 0 :", 256), "1")?;
-    assert_eq!(rt; questions, Ok(true));
-    let more_questions = answer_to_repeated(rt.alloc(), ("0 ? 0 :", 257), "1")?;
-    assert_eq!(rt; more_questions, Err(BadCondition::TooDeep));
+    Ok(())
+}
+
+#[test]
+fn parts_are_as_deep_as_one_list(rt: HostRuntime) -> Result<(), Fail> {
+    for (part, times, expected) in [
+        ("(", 256, Err(BadCondition::Malformed)),
+        ("(", 257, Err(BadCondition::TooDeep)),
+        ("0 ? 0 :", 256, Ok(true)),
+        ("0 ? 0 :", 257, Err(BadCondition::TooDeep)),
+    ] {
+        assert!(rt; answer_to_repeated(rt.alloc(), (part, times), "1")? == expected, "{part} {times} times");
+    }
     Ok(())
 }
 
 #[test]
 fn depth_is_limited(rt: HostRuntime) -> Result<(), Fail> {
-    let deepest = nested(rt.alloc(), ("(", 256), ("1", 1), (")", 256))?;
-    assert_eq!(rt; deepest, Ok(true));
-    let deeper = nested(rt.alloc(), ("(", 257), ("1", 1), (")", 257))?;
-    assert_eq!(rt; deeper, Err(BadCondition::TooDeep));
-    let wide = nested(
-        rt.alloc(),
-        ("(", 257),
-        ("18446744073709551616 )", 1),
-        ("1 / 0", 1),
-    )?;
-    assert_eq!(rt; wide, Err(BadCondition::TooDeep));
-    for behind in ["", "1 1", "1 / 0", "1 << 64"] {
-        let deep = nested(rt.alloc(), ("(", 257), (behind, 1), (")", 257))?;
-        assert_eq!(rt; deep, Err(BadCondition::TooDeep));
+    let too_deep = Err(BadCondition::TooDeep);
+    for (front, middle, end, expected) in [
+        (("(", 256), "1", (")", 256), Ok(true)),
+        (("(", 257), "1", (")", 257), too_deep),
+        (("(", 257), "18446744073709551616 )", ("1 / 0", 1), too_deep),
+        (("(", 257), "1 1", (")", 257), too_deep),
+        (("(", 257), "1 << 64", (")", 257), too_deep),
+        ((")", 1), "(", ("(", 256), Err(BadCondition::Malformed)),
+        (("0 ? 0 :", 256), "1", ("", 0), Ok(true)),
+        (("0 ? 0 :", 257), "1", ("", 0), too_deep),
+        (("! ~ - +", 10000), "1", ("&& 1", 1), Ok(true)),
+    ] {
+        let found = nested(rt.alloc(), front, (middle, 1), end)?;
+        assert!(rt; found == expected, "{middle}");
     }
-    let closed_first = nested(rt.alloc(), (")", 1), ("(", 257), ("1", 1))?;
-    assert_eq!(rt; closed_first, Err(BadCondition::Malformed));
-    let longest = nested(rt.alloc(), ("0 ? 0 :", 256), ("1", 1), ("", 0))?;
-    assert_eq!(rt; longest, Ok(true));
-    let longer = nested(rt.alloc(), ("0 ? 0 :", 257), ("1", 1), ("", 0))?;
-    assert_eq!(rt; longer, Err(BadCondition::TooDeep));
     Ok(())
 }
 
+/// All operators that may wait for an operand wait at once, in each of 256 parentheses.
 #[test]
 fn all_that_may_wait_waits_at_once(rt: HostRuntime) -> Result<(), Fail> {
     let front = "0 ? 0 : 0 || 1 && 0 | 0 ^ 1 & 1 == 1 < 0 << 0 + 1 * ! - ~ (";
-    let most = nested(
-        rt.alloc(),
-        (front, 256),
-        ("0 || 1 && 0 | 0 ^ 1 & 1 == 0 < 1 << 0 + 1 * 1", 1),
-        (")", 256),
-    )?;
-    assert_eq!(rt; most, Ok(false));
-    let operators = nested(rt.alloc(), ("! ~ - +", 10000), ("1", 1), ("&& 1", 1))?;
-    assert_eq!(rt; operators, Ok(true));
+    let middle = "0 || 1 && 0 | 0 ^ 1 & 1 == 0 < 1 << 0 + 1 * 1";
+    assert!(rt; nested(rt.alloc(), (front, 256), (middle, 1), (")", 256))? == Ok(false));
     Ok(())
 }

@@ -1,5 +1,5 @@
 //! Conditions, by what they answer.
-use crate::BadCondition;
+use cb_cond::BadCondition;
 
 /// Conditions of C that hold.
 pub(crate) const HOLDS: [&str; 139] = [

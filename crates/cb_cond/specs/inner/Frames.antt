@@ -16,7 +16,7 @@ use Rattle.cb_cond.specs.declared.frames.Held.TheVariants.{Awaits, Has}
 use Rattle.cb_cond.specs.declared.frames.Position.{Position}
 use Rattle.cb_cond.specs.Grammar.{level}
 use Rattle.cb_cond.specs.Values.{binary, choose}
-use Rattle.cb_cond.specs.Prefixes.{extended, applied}
+use Rattle.cb_cond.specs.inner.Prefixes.{extended, applied}
 
 -- what binds at a level ends the frame
 unfoldable pub ends : ℕ → Frame → Bool

@@ -1,7 +1,7 @@
 use Rattle.std.proofs.Common.{◌+◌, length, arith, length-drop}
 use Rattle.cb_cond.specs.Parts.{left}
 use Rattle.cb_cond.specs.Symbols.{symbols}
-use Rattle.cb_cond.specs.Frames.{read_of}
+use Rattle.cb_cond.specs.inner.Frames.{read_of}
 use Rattle.cb_cond.proofs.Along.{start-image, step-read, failed-at, read-end, room}
 use Rattle.cb_cond.proofs.Position.{at-start, at-less, at-next, at-item, at-end}
 use Rattle.cb_cond.proofs.evaluation.meaning_in.Goals as goal

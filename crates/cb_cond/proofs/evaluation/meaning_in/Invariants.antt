@@ -1,7 +1,7 @@
 use Rattle.std.proofs.Common.{◌≡◌, ℕ, ◌≤◌, length, take, drop, Some}
 use Rattle.cb_cond.specs.Parts.{left}
 use Rattle.cb_cond.specs.Symbols.{symbols}
-use Rattle.cb_cond.specs.Frames.{held_of}
+use Rattle.cb_cond.specs.inner.Frames.{held_of}
 use Rattle.cb_cond.proofs.Reading.{run}
 use Rattle.cb_cond.proofs.Image.{image}
 use Rattle.cb_cond.proofs.Along.{start}

@@ -1,5 +1,5 @@
 use Rattle.std.proofs.Common.{◌+◌, drop, ap, sym, ◌∙◌, arith}
-use Rattle.cb_cond.specs.Frames.{closed}
+use Rattle.cb_cond.specs.inner.Frames.{closed}
 use Rattle.cb_cond.proofs.Closing.{closed-next, closed-stops, closed-end}
 use Rattle.cb_cond.proofs.frames.close.Goals as goal
 

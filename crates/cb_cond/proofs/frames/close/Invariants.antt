@@ -1,5 +1,5 @@
 use Rattle.std.proofs.Common.{◌≡◌, ◌-◌, ◌≤◌, length, drop}
-use Rattle.cb_cond.specs.Frames.{closed}
+use Rattle.cb_cond.specs.inner.Frames.{closed}
 use Rattle.cb_cond.proofs.frames.close.Given as goal
 
 abbrev pub invariant-frames : goal.invariant-frames
