@@ -4,7 +4,7 @@ use Rattle.std.proofs.Math.Seq.{get_or-append_seam, set-append_seam}
 use Rattle.std.proofs.lemmas.Bool.{cases_lt}
 use Rattle.std.proofs.lemmas.Fmt.{decimal_digit, decimal_step}
 use Rattle.std.proofs.lemmas.List.{get_or-drop}
-use Rattle.codebasin.specs.NumberLines.{HasLine}
+use Rattle.codebasin.specs.inner.NumberLines.{HasLine}
 use Rattle.codebasin.specs.Texts.{line_text}
 
 -- the digits before the last one

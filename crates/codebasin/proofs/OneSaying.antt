@@ -1,5 +1,5 @@
 -- A source is answered in one way, since it is read in one way and each condition has one answer.
-use Rattle.std.proofs.Common.{◌≡◌, ℕ, Bool, true, false, not, ◌&&◌, ◌||◌, List, [], ◌∷◌, ◌++◌, Result, refl, ap, sym, subst, ◌∙◌, arith}
+use Rattle.std.proofs.Common.{◌≡◌, ◌≢◌, ◌⊎◌, inl, inr, ℕ, take, Option, Some, None, IfSome, Bool, true, false, not, ◌&&◌, ◌||◌, List, [], ◌∷◌, ◌++◌, Result, refl, ap, sym, subst, ◌∙◌, arith}
 use Rattle.cb_tokens.specs.declared.token.Token.{Token}
 use Rattle.cb_tree.specs.declared.node.NodeKind.{NodeKind}
 use Rattle.cb_tree.specs.declared.node.NodeKind.TheVariants.{Text, If, Ifdef, Ifndef, Elif, Else, Endif, Define, Undef, Include, Once, Error, Other}
@@ -17,7 +17,11 @@ use Rattle.codebasin.specs.NameSet.{NameSet}
 use Rattle.codebasin.specs.Sections.{is_live, may_be_taken, entered, continued}
 use Rattle.codebasin.specs.Pass.{State, Holds, IsTruth, Reaches, truth, is_asked, reached_here, sections_behind, state_behind, lines_of_nodes}
 use Rattle.codebasin.specs.Texts.{numbers_text, fault_text, not_yet_text}
-use Rattle.codebasin.specs.Answers.{Answers, SaysOfNodes, not_yet, done, too_long, unsound, sound}
+use Rattle.codebasin.specs.Texts.{usage_text}
+use Rattle.codebasin.specs.Words.{Job, Specialise, job_of}
+use Rattle.codebasin.specs.Run.{World, Says, specialised, usage, malformed, not_yet, too_long, unread}
+use Rattle.codebasin.specs.inner.Answers.{Answers, SaysOfNodes, done, unsound, sound}
+use Rattle.codebasin.specs.inner.Answers as answers
 
 -- a condition has one answer, and a source one reading
 pub record Laws : Type 0 where
@@ -100,10 +104,10 @@ one_pass L (n ∷ ns) state a b h k =
     h.2.2 ∙ (ap (λ ms. reached_here n state ++ ms) more ∙ sym k.2.2)
 
 one_of_nodes : Laws → (names : List (List ℕ)) (nodes : List Node) (s s' : ℕ) (t t' : List ℕ) → SaysOfNodes names nodes s t → SaysOfNodes names nodes s' t' → (s ≡ s') × (t ≡ t')
-one_of_nodes L names nodes _ _ _ _ (not_yet line e) (not_yet line' e') =
+one_of_nodes L names nodes _ _ _ _ (answers.not_yet line e) (answers.not_yet line' e') =
     let same : line ≡ line' = cc in (refl, ap not_yet_text same)
-one_of_nodes L names nodes _ _ _ _ (not_yet line e) (done reached e' r) = absurd cc
-one_of_nodes L names nodes _ _ _ _ (done reached e r) (not_yet line' e') = absurd cc
+one_of_nodes L names nodes _ _ _ _ (answers.not_yet line e) (done reached e' r) = absurd cc
+one_of_nodes L names nodes _ _ _ _ (done reached e r) (answers.not_yet line' e') = absurd cc
 one_of_nodes L names nodes _ _ _ _ (done reached e r) (done reached' e' r') =
     (refl, ap (λ ns. numbers_text (lines_of_nodes ns)) (one_pass L nodes _ reached reached' r r'))
 
@@ -112,18 +116,62 @@ not_both L source nodes fault r u = let e = L.reading source (Sound nodes) (Unso
 
 -- a source is answered in one way
 pub one_answer : Laws → (names : List (List ℕ)) (source : List ℕ) (s s' : ℕ) (t t' : List ℕ) → Answers names source s t → Answers names source s' t' → (s ≡ s') × (t ≡ t')
-one_answer L names source _ _ _ _ (too_long h) (too_long h') = (refl, refl)
-one_answer L names source _ _ _ _ (too_long h) (unsound f' h' r') = absurd (omega arith)
-one_answer L names source _ _ _ _ (too_long h) (sound ns' s' t' r' x') = absurd (not_both L source ns' _ r' (too_many_bytes h))
-one_answer L names source _ _ _ _ (unsound f h r) (too_long h') = absurd (omega arith)
+one_answer L names source _ _ _ _ (answers.too_long h) (answers.too_long h') = (refl, refl)
+one_answer L names source _ _ _ _ (answers.too_long h) (unsound f' h' r') = absurd (omega arith)
+one_answer L names source _ _ _ _ (answers.too_long h) (sound ns' s' t' r' x') = absurd (not_both L source ns' _ r' (too_many_bytes h))
+one_answer L names source _ _ _ _ (unsound f h r) (answers.too_long h') = absurd (omega arith)
 one_answer L names source _ _ _ _ (unsound f h r) (unsound f' h' r') =
     let e = L.reading source (Unsound f) (Unsound f') r r' in
     let same : f ≡ f' = cc in (refl, ap fault_text same)
 one_answer L names source _ _ _ _ (unsound f h r) (sound ns' s' t' r' x') = absurd (not_both L source ns' f r' r)
-one_answer L names source _ _ _ _ (sound ns s t r x) (too_long h') = absurd (not_both L source ns _ r (too_many_bytes h'))
+one_answer L names source _ _ _ _ (sound ns s t r x) (answers.too_long h') = absurd (not_both L source ns _ r (too_many_bytes h'))
 one_answer L names source _ _ _ _ (sound ns s t r x) (unsound f' h' r') = absurd (not_both L source ns f' r r')
 one_answer L names source _ _ _ _ (sound ns s t r x) (sound ns' s' t' r' x') =
     let e = L.reading source (Sound ns) (Sound ns') r r' in
     let same : ns' ≡ ns = cc in
     let P : List Node → Type 0 = λ ms. SaysOfNodes names ms s' t' in
     one_of_nodes L names ns s s' t t' x (subst P same x')
+
+-- what a run says, as the job and the source, and what is said of the source
+record Heard (words : List (List ℕ)) (w : World) (status : ℕ) (text : List ℕ) : Type 0 where
+  names : List (List ℕ)
+  bytes : List ℕ
+  asked : job_of words ≡ Some (Specialise names)
+  front : IfSome w.input.bytes (λ left. bytes ≡ take 4194305 left)
+  says : Answers names bytes status text
+
+heard : (words : List (List ℕ)) (w a : World) (s : ℕ) (t : List ℕ) → Says words w a s t → s ≢ 4
+    → ((job_of words ≡ None) × (s ≡ 1) × (t ≡ usage_text)) ⊎ Heard words w s t
+heard words w a _ _ (specialised names bytes nodes reached job read is ready reaches) four =
+    inr (record { names = names; bytes = bytes; asked = job; front = read.front; says = sound nodes _ _ is (done reached ready reaches) })
+heard words w a _ _ (usage job kept) four = inl (job, refl, refl)
+heard words w a _ _ (malformed names bytes fault job read fits is) four =
+    inr (record { names = names; bytes = bytes; asked = job; front = read.front; says = unsound fault fits is })
+heard words w a _ _ (not_yet names bytes nodes line job read is early) four =
+    inr (record { names = names; bytes = bytes; asked = job; front = read.front; says = sound nodes _ _ is (answers.not_yet line early) })
+heard words w a _ _ (too_long names bytes job read long) four =
+    inr (record { names = names; bytes = bytes; asked = job; front = read.front; says = answers.too_long long })
+heard words w a _ _ (unread names job loses) four = absurd (four refl)
+
+one_heard : Laws → (words : List (List ℕ)) (w : World) (bytes : List ℕ) (s r : ℕ) (t u : List ℕ) → w.input.bytes ≡ Some bytes
+    → Heard words w s t → Heard words w r u → (s ≡ r) × (t ≡ u)
+one_heard L words w bytes s r t u told h k =
+    let names : h.names ≡ k.names = let e = sym h.asked ∙ k.asked in cc in
+    let first : h.bytes ≡ take 4194305 bytes = subst (λ o. IfSome o (λ left. h.bytes ≡ take 4194305 left)) told h.front in
+    let second : k.bytes ≡ take 4194305 bytes = subst (λ o. IfSome o (λ left. k.bytes ≡ take 4194305 left)) told k.front in
+    let says : Answers h.names h.bytes r u = subst (λ ns. Answers ns h.bytes r u) (sym names) (subst (λ bs. Answers k.names bs r u) (second ∙ sym first) k.says) in
+    one_answer L h.names h.bytes s r t u h.says says
+
+pub one_saying : Laws → (words : List (List ℕ)) (w a b : World) (bytes : List ℕ) (s r : ℕ) (t u : List ℕ)
+    → w.input.bytes ≡ Some bytes → Says words w a s t → Says words w b r u → s ≢ 4 → r ≢ 4 → (s ≡ r) × (t ≡ u)
+one_saying L words w a b bytes s r t u told x y four four' =
+    elim (heard words w a s t x four) [
+      inl h ↦ elim (heard words w b r u y four') [
+        inl k ↦ (h.1 ∙ sym k.1, h.2 ∙ sym k.2)
+      | inr k ↦ absurd (let e = sym h.0 ∙ k.asked in cc)
+      ]
+    | inr h ↦ elim (heard words w b r u y four') [
+        inl k ↦ absurd (let e = sym k.0 ∙ h.asked in cc)
+      | inr k ↦ one_heard L words w bytes s r t u told h k
+      ]
+    ]

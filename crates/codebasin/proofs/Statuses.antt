@@ -1,7 +1,7 @@
 -- The statuses that are said.
 use Rattle.std.proofs.Common.{◌≡◌, ℕ, ◌≤◌, List, Option, Some, None, refl, lit≤, arith}
 use Rattle.std.specs.Io.KnownBytes.{Keeps}
-use Rattle.codebasin.specs.Answers.{Answers, SaysOfNodes, not_yet, done, too_long, unsound, sound}
+use Rattle.codebasin.specs.inner.Answers.{Answers, SaysOfNodes, not_yet, done, too_long, unsound, sound}
 use Rattle.cb_tree.specs.Nodes.{Node}
 use Rattle.codebasin.specs.Run.{Says, refused, answered, unread}
 

@@ -3,9 +3,7 @@ pub mod Sections
 pub mod Defined
 pub mod Pass
 pub mod NotYet
-pub mod NumberLines
-pub mod Passing
 pub mod Words
 pub mod Texts
-pub mod Answers
 pub mod Run
+pub mod inner

@@ -1,5 +1,5 @@
 -- The words of the command line.
-use Rattle.std.specs.Prelude.{ℕ, ◌==◌, ◌&&◌, if◌then◌else◌, List, [], ◌∷◌, codes, Option, Some, None}
+use Rattle.std.specs.Prelude.{ℕ, ◌==◌, ◌&&◌, if◌then◌else◌, List, [], ◌∷◌, codes, Option, Some, None, option_map}
 use Rattle.std.specs.Str.{bytes_eq}
 use Rattle.cb_tokens.specs.Forms.{is_identifier}
 use Rattle.codebasin.specs.Pass.{may_be_macro}
@@ -28,7 +28,15 @@ names_in (word ∷ next ∷ words) =
     if bytes_eq word (codes "-D") then before (definable next) (names_in words)
     else before (joined_name word) (names_in (next ∷ words))
 
--- what the words ask for: a pass with these names, or nothing (own)
-abbrev pub job_of : List (List ℕ) → Option (List (List ℕ))
-job_of [] = None
-job_of (word ∷ words) = if bytes_eq word (codes "specialise") then names_in words else None
+-- the names of the words behind the command `specialise`, or nothing where the words are not such (own)
+abbrev pub names_asked : List (List ℕ) → Option (List (List ℕ))
+names_asked [] = None
+names_asked (word ∷ words) = if bytes_eq word (codes "specialise") then names_in words else None
+
+-- what a run is asked for: which lines a source with these names defined reaches (own)
+pub data Job : Type 0 where
+  Specialise : List (List ℕ) → Job
+
+-- what the words ask for, or nothing where they are no command (own)
+abbrev pub job_of : List (List ℕ) → Option Job
+job_of words = option_map Specialise (names_asked words)

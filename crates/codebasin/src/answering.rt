@@ -1,6 +1,7 @@
 //! From a source to what is said of it.
 ghost use Rattle.std.specs.Prelude.{◌≡◌, IfOk};
-ghost use Rattle.codebasin.specs.Answers.{Answers, SaysOfNodes};
+ghost use Rattle.codebasin.specs.inner.Answers.{Answers, SaysOfNodes};
+ghost use Rattle.codebasin.specs.inner.Said.{said_bytes};
 
 use crate::reached::{Passed, pass_over};
 use crate::starting::start_names;
@@ -10,23 +11,53 @@ use cb_tree::{BuildFault, Tree, build};
 use std::alloc::Global;
 use std::mem;
 
+/// A text that a run writes.
+#[derive(Drop)]
+pub(crate) enum Said {
+    /// One that stands in the program.
+    Fixed(&'static [u8]),
+    /// One that was made for this run.
+    Made(Vec<u8>),
+}
+
+impl Said {
+    ghost use Rattle.codebasin.specs.inner.Said.{said_bytes};
+
+    /// The bytes of the text.
+    pub(crate) fn as_slice(&self) -> &[u8]
+        ensures { result.now ≡ said_bytes self.now }
+    {
+        match self {
+            Said::Fixed(text) => text,
+            Said::Made(text) => text.as_slice(),
+        }
+    }
+}
+
 /// What a run says: the text that it writes, and the status that it then ends with.
 #[derive(Drop)]
 pub(crate) struct Answer {
     /// The status of a run whose text is written.
     pub(crate) status: u8,
     /// All that is written.
-    pub(crate) text: Vec<u8>,
+    pub(crate) text: Said,
 }
 
 impl Answer {
-    /// The answer of a fixed text.
-    pub(crate) fn fixed(alloc: Global, status: u8, text: &[u8]) -> Result<Answer, NoMemory>
-        ensures status { IfOk result (λ answer. answer.status ≡ status) }
-        ensures text { IfOk result (λ answer. answer.text.items ≡ text.now) }
-    {
-        let text = Vec::from_slice(alloc, text)?;
-        Ok(Answer { status, text })
+    /// The answer of a fixed text. It takes no memory.
+    pub(crate) fn fixed(status: u8, text: &'static [u8]) -> Answer {
+        Answer {
+            status,
+            text: Said::Fixed(text),
+        }
+    }
+
+    /// The answer of a text that was made.
+    fn made(status: u8, text: Vec<u8>) -> Answer {
+        Answer {
+            status,
+            text: Said::Made(text),
+        }
     }
 }
 
@@ -39,18 +70,18 @@ struct Subject {
 
 /// What is said of a sound source.
 fn answer_tree(alloc: Global, subject: &Subject) -> Result<Answer, NoMemory>
-    ensures { IfOk result (λ answer. SaysOfNodes subject.now.names.items subject.now.tree answer.status answer.text.items) }
+    ensures { IfOk result (λ answer. SaysOfNodes subject.now.names.items subject.now.tree answer.status (said_bytes answer.text)) }
 {
     let names = start_names(alloc, subject.names.as_slice())?;
     let passed = pass_over(alloc, &subject.tree, names)?;
     match passed {
         Passed::UpTo(line) => {
             let text = not_yet_text(alloc, line)?;
-            Ok(Answer { status: 2, text })
+            Ok(Answer::made(2, text))
         }
         Passed::All(lines) => {
             let text = numbers_text(alloc, &lines)?;
-            Ok(Answer { status: 0, text })
+            Ok(Answer::made(0, text))
         }
     }
 }
@@ -61,10 +92,10 @@ pub(crate) fn answer_source(
     names: Vec<Bytes>,
     source: &[u8],
 ) -> Result<Answer, NoMemory>
-    ensures { IfOk result (λ answer. Answers names.items source.now answer.status answer.text.items) }
+    ensures { IfOk result (λ answer. Answers names.items source.now answer.status (said_bytes answer.text)) }
 {
     if source.len() > SOURCE_BYTE_LIMIT {
-        return Answer::fixed(alloc, 3, TOO_LONG);
+        return Ok(Answer::fixed(3, TOO_LONG));
     }
     match build(alloc, source) {
         Ok(tree) => {
@@ -76,7 +107,7 @@ pub(crate) fn answer_source(
         }
         Err(BuildFault::Bad(fault)) => {
             let text = fault_text(alloc, fault)?;
-            Ok(Answer { status: 2, text })
+            Ok(Answer::made(2, text))
         }
         Err(BuildFault::NoMemory) => Err(NoMemory),
     }

@@ -1,18 +1,18 @@
 //! Laws of what a run says.
-ghost use Rattle.std.specs.Prelude.{◌≡◌, ℕ, List};
+ghost use Rattle.std.specs.Prelude.{◌≡◌, ◌≢◌, ℕ, List, Some};
 ghost use Rattle.cb_tree.specs.Nodes.{Node};
-ghost use Rattle.codebasin.specs.Answers.{Answers};
 ghost use Rattle.codebasin.specs.Pass.{State, Reaches};
+ghost use Rattle.codebasin.specs.Run.{World, Says};
 
 use cb_cond::one_condition;
 use cb_tree::one_reading;
 
-/// A pass reaches the same nodes each time, and a source is answered in one way: so a run that says anything of its input
-/// says this alone.
-pub(crate) fn one_answer()
+/// A pass reaches the same nodes each time. Two runs with the same words over the same input, where it tells its bytes and no read
+/// fails, say the same.
+pub(crate) fn one_saying()
     ensures pass { (nodes : List Node) (state : State) (a b : List Node) → Reaches nodes state a → Reaches nodes state b → a ≡ b }
-    ensures answer { (names : List (List ℕ)) (source : List ℕ) (s r : ℕ) (t u : List ℕ)
-        → Answers names source s t → Answers names source r u → (s ≡ r) × (t ≡ u) }
+    ensures saying { (words : List (List ℕ)) (w a b : World) (bytes : List ℕ) (s r : ℕ) (t u : List ℕ)
+        → w.input.bytes ≡ Some bytes → Says words w a s t → Says words w b r u → s ≢ 4 → r ≢ 4 → (s ≡ r) × (t ≡ u) }
 {
     one_condition();
     one_reading();

@@ -1,6 +1,6 @@
 //! Numbers on lines of their own, one after another.
 ghost use Rattle.std.specs.Prelude.{◌≡◌, ◌+◌, ◌<◌, ◌≤◌, ◌++◌, decimal, OnOk};
-ghost use Rattle.codebasin.specs.NumberLines.{HasLine};
+ghost use Rattle.codebasin.specs.inner.NumberLines.{HasLine};
 ghost use Rattle.codebasin.specs.Texts.{line_text};
 
 use cb_paths::NoMemory;

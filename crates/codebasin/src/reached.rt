@@ -1,7 +1,7 @@
 //! A pass over a tree, and the counted lines that it reaches.
 ghost use Rattle.std.specs.Prelude.{◌≡◌, [], true, Bool, OnOk, IfOk, if◌then◌else◌};
 ghost use Rattle.codebasin.specs.Pass.{Holds, is_asked, with_numbers, is_reached, state_behind};
-ghost use Rattle.codebasin.specs.Passing.{HasPassed};
+ghost use Rattle.codebasin.specs.inner.Passing.{HasPassed};
 
 use crate::early::is_ready;
 use crate::names::Names;

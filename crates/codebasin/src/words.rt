@@ -3,7 +3,7 @@ ghost use Rattle.std.specs.Prelude.{◌≡◌, ◌<◌, length, map, string_byte
 ghost use Rattle.std.specs.List.{list_all};
 ghost use Rattle.std.specs.Option.{option_copied, option_map};
 ghost use Rattle.cb_tokens.specs.Forms.{is_identifier, is_name_start, is_name_byte};
-ghost use Rattle.codebasin.specs.Words.{definable, joined_name, before, names_in, job_of};
+ghost use Rattle.codebasin.specs.Words.{definable, joined_name, before, names_in, names_asked};
 
 use crate::pass::may_be_macro;
 use cb_paths::{Bytes, NoMemory};
@@ -63,9 +63,9 @@ fn names_in(alloc: Global, words: &[String]) -> Result<Option<Vec<Bytes>>, NoMem
     Ok(Some(names))
 }
 
-/// What the words ask for: a pass with these names, or nothing where they are no such words.
-pub(crate) fn job_of(alloc: Global, words: &[String]) -> Result<Option<Vec<Bytes>>, NoMemory>
-    ensures { IfOk result (λ names. option_map (λ found. found.items) names ≡ job_of (map string_bytes words.now)) }
+/// The names of the words behind the command `specialise`, or nothing where the words are not such.
+pub(crate) fn names_asked(alloc: Global, words: &[String]) -> Result<Option<Vec<Bytes>>, NoMemory>
+    ensures { IfOk result (λ names. option_map (λ found. found.items) names ≡ names_asked (map string_bytes words.now)) }
 {
     let Some((first, rest)) = words.split_first() else {
         return Ok(None);

@@ -1,7 +1,7 @@
 use Rattle.std.proofs.Common.{ℕ, ◌≤◌, List, length, Err, ap, sym, subst, arith}
 use Rattle.std.proofs.lemmas.Result.{IfOk-weaker}
 use Rattle.codebasin.specs.Texts.{limit_text}
-use Rattle.codebasin.specs.Answers.{Answers, too_long, unsound, sound}
+use Rattle.codebasin.specs.inner.Answers.{Answers, too_long, unsound, sound}
 use Rattle.codebasin.proofs.AnswerParts.{from_parts}
 use Rattle.codebasin.proofs.answering.answer_source.Goals as goal
 

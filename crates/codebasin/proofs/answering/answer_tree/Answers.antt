@@ -2,7 +2,7 @@ use Rattle.std.proofs.Common.{ℕ, List, [], sym, ap, subst, ◌∙◌}
 use Rattle.codebasin.specs.NameSet.{NameSet}
 use Rattle.codebasin.specs.Pass.{start_names, Reaches}
 use Rattle.codebasin.specs.Texts.{numbers_text}
-use Rattle.codebasin.specs.Answers.{SaysOfNodes, not_yet, done}
+use Rattle.codebasin.specs.inner.Answers.{SaysOfNodes, not_yet, done}
 use Rattle.codebasin.proofs.answering.answer_tree.Goals as goal
 
 pub returns-in_ok-text-in-UpTo : goal.returns-in_ok-text-in-UpTo

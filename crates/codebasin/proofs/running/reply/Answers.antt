@@ -4,7 +4,7 @@ use Rattle.std.specs.Option.{option_map}
 use Rattle.std.specs.String.{string_bytes}
 use Rattle.std.proofs.lemmas.Result.{IfOk-weaker}
 use Rattle.codebasin.specs.Texts.{usage_text, read_text}
-use Rattle.codebasin.specs.Answers.{Answers}
+use Rattle.codebasin.specs.inner.Answers.{Answers}
 use Rattle.codebasin.specs.Run.{Says, refused, answered, unread}
 use Rattle.codebasin.proofs.AnswerParts.{from_parts}
 use Rattle.codebasin.proofs.Statuses.{answer_status, answer_status_not_one, keeps_itself}

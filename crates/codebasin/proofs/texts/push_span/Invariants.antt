@@ -1,7 +1,7 @@
 use Rattle.std.proofs.Common.{◌≡◌, ◌≤◌, ◌++◌, ◌-◌}
 use Rattle.std.specs.List.{range_with_len}
 use Rattle.cb_lines.specs.Lines.{span_lines}
-use Rattle.codebasin.specs.NumberLines.{HasLine}
+use Rattle.codebasin.specs.inner.NumberLines.{HasLine}
 use Rattle.codebasin.specs.Texts.{numbers_text}
 use Rattle.codebasin.proofs.texts.push_span.Given as goal
 
