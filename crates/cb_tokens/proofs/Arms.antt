@@ -12,8 +12,8 @@ use Rattle.cb_tokens.specs.declared.class.Class.{Class}
 use Rattle.cb_tokens.specs.declared.class.Class.TheVariants as classes
 use Rattle.cb_tokens.specs.Forms.{is_white, is_line_feed, is_name_start, is_name_byte, is_quote, is_identifier, is_prefix_letter, is_punctuator, punctuators, is_unclosed, stays_unclosed, is_stray, is_white_run, begins_with, is_open_comment, fits}
 use Rattle.cb_tokens.specs.Cut.{StandsFirst}
-use Rattle.cb_tokens.specs.Classes.{class_of, BeginsIn}
-use Rattle.cb_tokens.specs.Scan.{IsLongest}
+use Rattle.cb_tokens.specs.inner.Classes.{class_of, BeginsIn}
+use Rattle.cb_tokens.specs.inner.Scan.{IsLongest}
 use Rattle.cb_tokens.proofs.Prefixes.{prefix_yes, all_prefix, prefix_most, prefix_within}
 use Rattle.cb_tokens.proofs.Punctuators.{among}
 use Rattle.cb_tokens.proofs.Heads.{IsMost, stands}

@@ -3,7 +3,7 @@ use Rattle.std.proofs.Common.{◌≡◌, ℕ, suc, zero, ◌+◌, ◌-◌, ◌<�
 use Rattle.std.proofs.lemmas.Bool.{eqb-true, and_parts, and_right, cases_lt, cond-false}
 use Rattle.std.proofs.lemmas.List.{drop_all, get_or_past}
 use Rattle.cb_tokens.specs.Forms.{begins_with, ends_comment, has_comment_end}
-use Rattle.cb_tokens.specs.Scan.{ends_with, IsLongest, EndsComment}
+use Rattle.cb_tokens.specs.inner.Scan.{ends_with, IsLongest, EndsComment}
 use Rattle.cb_tokens.proofs.Longest.{AreWithin, longest_on, split_at, head_at}
 
 begins_short : (b : ℕ) (bs : List ℕ) → begins_with 42 47 (b ∷ bs) ≡ ((b == 42) && (get_or bs 0 0 == 47))

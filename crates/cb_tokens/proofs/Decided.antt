@@ -14,9 +14,9 @@ use Rattle.cb_tokens.specs.declared.class.Class.TheVariants as classes
 use Rattle.cb_tokens.specs.declared.left.QuoteLeft.{QuoteLeft}
 use Rattle.cb_tokens.specs.declared.left.QuoteLeft.TheVariants.{Closed, Unclosed, Broken}
 use Rattle.cb_tokens.specs.Forms.{is_name_start, is_name_byte, is_quote, is_identifier, is_number, is_number_rest, is_character, is_string, is_punctuator, is_unclosed, is_stray, fits}
-use Rattle.cb_tokens.specs.Classes.{BeginsIn}
-use Rattle.cb_tokens.specs.Scan.{quoted_kind}
-use Rattle.cb_tokens.specs.Whole.{IsDecided, EndsAs, closed_as}
+use Rattle.cb_tokens.specs.inner.Classes.{BeginsIn}
+use Rattle.cb_tokens.specs.inner.Scan.{quoted_kind}
+use Rattle.cb_tokens.specs.inner.Whole.{IsDecided, EndsAs, closed_as}
 use Rattle.cb_tokens.proofs.Heads.{starts, kinds, Each, holds, each_at, head_kinds}
 use Rattle.cb_tokens.proofs.Arms.{fact, fact_of}
 use Rattle.cb_tokens.proofs.Quotes.{quote_cases}

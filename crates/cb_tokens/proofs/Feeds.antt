@@ -10,7 +10,7 @@ use Rattle.cb_tokens.specs.declared.token.PieceKind.TheVariants.{White, LineEnd,
 use Rattle.cb_tokens.specs.declared.first.First.TheVariants as first
 use Rattle.cb_tokens.specs.Forms.{is_white, is_line_feed, is_white_run, is_name_start, is_quote, is_prefix_letter, is_punctuator, is_quoted, closes, is_character, is_string, stays_unclosed, is_unclosed, is_stray, fits}
 use Rattle.cb_tokens.specs.Cut.{StandsFirst}
-use Rattle.cb_tokens.specs.Plain.{IsTokenAt}
+use Rattle.cb_tokens.specs.inner.Breaks.{IsTokenAt}
 use Rattle.cb_tokens.proofs.Stretches.{taken_at, is_solid, identifier_solid, number_solid, punctuator_solid, prefix_solid, white_no_feed_byte}
 
 -- no LF

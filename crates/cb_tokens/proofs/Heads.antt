@@ -12,7 +12,7 @@ use Rattle.cb_tokens.specs.declared.class.Class.{Class}
 use Rattle.cb_tokens.specs.declared.class.Class.TheVariants as classes
 use Rattle.cb_tokens.specs.Forms.{is_white, is_line_feed, is_name_start, is_name_byte, is_quote, is_identifier, is_number, is_number_rest, is_quoted, closes, is_prefix_letter, is_character, is_string, is_punctuator, punctuators, is_unclosed, stays_unclosed, is_stray, is_white_run, begins_with, ends_comment, is_comment, is_open_comment, fits}
 use Rattle.cb_tokens.specs.Cut.{StandsFirst}
-use Rattle.cb_tokens.specs.Classes.{class_of, BeginsIn}
+use Rattle.cb_tokens.specs.inner.Classes.{class_of, BeginsIn}
 use Rattle.cb_tokens.proofs.Punctuators.{of_punctuators}
 
 -- a piece of the kind may begin with the byte

@@ -5,7 +5,8 @@ use Rattle.cb_lines.specs.declared.mark.Mark.{Mark}
 use Rattle.cb_tokens.specs.declared.token.Token.{Token}
 use Rattle.cb_tokens.specs.declared.lexed.LogicalLine.{LogicalLine}
 use Rattle.cb_tokens.specs.Cut.{Piece, HasOpenComment}
-use Rattle.cb_tokens.specs.Logical.{Line, line_of, line_tokens, counted_lines, AreLinesOf, BeginsWithLine}
+use Rattle.cb_tokens.specs.Logical.{Line, line_of, line_tokens, counted_lines, AreLinesOf}
+use Rattle.cb_tokens.specs.inner.LineCuts.{BeginsWithLine}
 
 -- a line as contracts see it
 abbrev pub seen : LogicalLine → Line

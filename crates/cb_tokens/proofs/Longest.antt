@@ -1,7 +1,7 @@
 -- The longest prefix of a form, one byte further on.
 use Rattle.std.proofs.Common.{◌≡◌, ℕ, suc, zero, ◌+◌, ◌<◌, ◌≤◌, Bool, true, false, List, [], ◌∷◌, length, get_or, take, drop, sym, ◌∙◌, subst, arith, get_or-drop}
 use Rattle.std.proofs.lemmas.List.{drop_more}
-use Rattle.cb_tokens.specs.Scan.{IsLongest, HasNone}
+use Rattle.cb_tokens.specs.inner.Scan.{IsLongest, HasNone}
 
 -- each prefix is no longer than n
 abbrev pub AreWithin : (List ℕ → Bool) → List ℕ → ℕ → Type 0

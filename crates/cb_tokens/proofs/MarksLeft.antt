@@ -6,7 +6,7 @@ use Rattle.std.proofs.lemmas.List.{take_all}
 use Rattle.cb_lines.specs.declared.mark.Mark.{Mark}
 use Rattle.cb_lines.specs.Marks.{bytes_of}
 use Rattle.cb_tokens.specs.Forms.{is_quote, is_line_feed, is_punctuator, continues_number, is_number_rest, closes, stays_unclosed}
-use Rattle.cb_tokens.specs.Whole.{byte_of}
+use Rattle.cb_tokens.specs.inner.Whole.{byte_of}
 use Rattle.cb_tokens.proofs.Punctuators.{too_long}
 use Rattle.cb_tokens.proofs.Quotes.{Plain, plain_of, for_quote, closes_on, stays_on, closes_over, stays_over, feed_closes, feed_stays}
 

@@ -9,7 +9,7 @@ use Rattle.std.proofs.lemmas.Simd.{bit_mask_l, tops_compared, mask_l-mod}
 use Rattle.std.proofs.lemmas.Nat.Bits.{bit_at_or, bit_at_and, bit_at_not, bit_at-lt}
 use Rattle.cb_tokens.specs.Forms.{is_line_feed, is_quote, is_name_byte, is_name_start}
 use Rattle.cb_tokens.specs.Plain.{is_quiet}
-use Rattle.cb_tokens.specs.Scan.{is_inner, ends_with}
+use Rattle.cb_tokens.specs.inner.Scan.{is_inner, ends_with}
 
 one_of : (a b k : ℕ) → bit_at (bit_or a b) k ≡ 1 → (bit_at a k ≡ 1) ⊎ (bit_at b k ≡ 1)
 one_of a b k h =

@@ -8,8 +8,8 @@ use Rattle.cb_tokens.specs.declared.first.First.TheVariants as first
 use Rattle.cb_tokens.specs.declared.class.Class.TheVariants as classes
 use Rattle.cb_tokens.specs.Forms.{is_name_start, is_name_byte, is_number, is_number_rest, is_punctuator, punctuators, fits}
 use Rattle.cb_tokens.specs.Cut.{StandsFirst}
-use Rattle.cb_tokens.specs.Classes.{BeginsIn}
-use Rattle.cb_tokens.specs.Scan.{IsLongest}
+use Rattle.cb_tokens.specs.inner.Classes.{BeginsIn}
+use Rattle.cb_tokens.specs.inner.Scan.{IsLongest}
 use Rattle.cb_tokens.proofs.Longest.{AreWithin}
 use Rattle.cb_tokens.proofs.Numbers.{name_continues}
 use Rattle.cb_tokens.proofs.Punctuators.{of_punctuators}

@@ -3,7 +3,7 @@ use Rattle.std.proofs.Common.{◌≡◌, ℕ, suc, zero, ◌+◌, ◌<◌, ◌�
 use Rattle.std.proofs.lemmas.Bool.{false≢true, and_parts, and_from, both_ways}
 use Rattle.cb_tokens.proofs.Longest.{split_at, head_at, counts_on}
 use Rattle.cb_tokens.specs.Forms.{is_name_start, is_name_byte, continues_number, is_number_rest}
-use Rattle.cb_tokens.specs.Scan.{IsLongest}
+use Rattle.cb_tokens.specs.inner.Scan.{IsLongest}
 
 -- a byte of a name goes on with a number, whatever stands beside it
 pub name_continues : (before b after : ℕ) → is_name_byte b ≡ true → continues_number before b after ≡ true

@@ -11,7 +11,7 @@ use Rattle.cb_tokens.specs.declared.token.PieceKind.TheVariants.{Token}
 use Rattle.cb_tokens.specs.Forms.{is_white, is_line_feed, is_name_start, is_prefix_letter, is_quote, is_punctuator, punctuators, is_stray, begins_with, is_open_comment, has_comment_end, fits}
 use Rattle.cb_tokens.specs.Cut.{Piece}
 use Rattle.cb_tokens.specs.Logical.{IsOneToken}
-use Rattle.cb_tokens.specs.Whole.{IsDecided}
+use Rattle.cb_tokens.specs.inner.Whole.{IsDecided}
 use Rattle.cb_tokens.proofs.Heads.{start, starts, begins_first}
 use Rattle.cb_tokens.proofs.Alike.{alike, comment_table}
 use Rattle.cb_tokens.proofs.Cutting.{no_piece}

@@ -13,8 +13,8 @@ use Rattle.cb_tokens.specs.declared.quote.QuoteEnd.{QuoteEnd}
 use Rattle.cb_tokens.specs.declared.quote.QuoteEnd.TheVariants.{Closed, Unclosed}
 use Rattle.cb_tokens.specs.Forms.{is_name_start, is_name_byte, is_quote, is_identifier, is_quoted, closes, is_prefix_letter, is_character, is_string, fits}
 use Rattle.cb_tokens.specs.Cut.{StandsFirst}
-use Rattle.cb_tokens.specs.Classes.{BeginsIn}
-use Rattle.cb_tokens.specs.Scan.{HasNone, EndsQuote, quoted_kind, prefix_before_quote}
+use Rattle.cb_tokens.specs.inner.Classes.{BeginsIn}
+use Rattle.cb_tokens.specs.inner.Scan.{HasNone, EndsQuote, quoted_kind, prefix_before_quote}
 use Rattle.cb_tokens.proofs.Longest.{AreWithin}
 use Rattle.cb_tokens.proofs.Quotes.{quote_cases}
 use Rattle.cb_tokens.proofs.Prefixes.{prefix_yes}

@@ -6,7 +6,7 @@ use Rattle.std.proofs.lemmas.Bool.{false≢true, both_ways, and_parts, or_cases,
 use Rattle.std.proofs.lemmas.List.{get_or_past}
 use Rattle.std.proofs.lemmas.Slice.Eq.{bytes_eq-Decides}
 use Rattle.cb_tokens.specs.Forms.{is_punctuator, punctuators}
-use Rattle.cb_tokens.specs.Scan.{IsLongest, is_second}
+use Rattle.cb_tokens.specs.inner.Scan.{IsLongest, is_second}
 use Rattle.cb_tokens.proofs.Longest.{AreWithin}
 
 pub among : (test : List ℕ → Bool) (l : List ℕ) (ps : List (List ℕ)) → list_all test ps ≡ true → list_any (λ p. bytes_eq p l) ps ≡ true → test l ≡ true

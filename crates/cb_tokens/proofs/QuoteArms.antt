@@ -12,8 +12,8 @@ use Rattle.cb_tokens.specs.declared.quote.QuoteEnd.{QuoteEnd}
 use Rattle.cb_tokens.specs.declared.quote.QuoteEnd.TheVariants.{Closed, Unclosed}
 use Rattle.cb_tokens.specs.Forms.{is_white, is_line_feed, is_name_start, is_quote, is_quoted, closes, is_prefix_letter, is_character, is_string, is_punctuator, punctuators, is_unclosed, stays_unclosed, is_stray, begins_with, ends_comment, is_comment, is_open_comment, has_comment_end, fits}
 use Rattle.cb_tokens.specs.Cut.{StandsFirst}
-use Rattle.cb_tokens.specs.Classes.{BeginsIn}
-use Rattle.cb_tokens.specs.Scan.{IsLongest, EndsQuote, EndsComment, quoted_kind}
+use Rattle.cb_tokens.specs.inner.Classes.{BeginsIn}
+use Rattle.cb_tokens.specs.inner.Scan.{IsLongest, EndsQuote, EndsComment, quoted_kind}
 use Rattle.cb_tokens.proofs.Longest.{AreWithin}
 use Rattle.cb_tokens.proofs.Quotes.{quote_cases}
 use Rattle.cb_tokens.proofs.Prefixes.{prefix_yes, all_prefix, prefix_most, prefix_within}

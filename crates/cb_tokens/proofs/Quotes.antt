@@ -3,7 +3,7 @@ use Rattle.std.proofs.Common.{◌≡◌, ℕ, suc, zero, ◌+◌, ◌-◌, ◌<�
 use Rattle.std.proofs.lemmas.Bool.{false≢true, or_cases, eqb-true, eq-eqb, lt-ltb, cases_lt, cases_Bool, and_parts, ltb-true, not-true, cond-true, cond-false}
 use Rattle.std.proofs.lemmas.List.{drop_all}
 use Rattle.cb_tokens.specs.Forms.{is_quote, is_line_feed, closes, stays_unclosed}
-use Rattle.cb_tokens.specs.Scan.{is_inner, HasNone, EndsQuote, quote_step}
+use Rattle.cb_tokens.specs.inner.Scan.{is_inner, HasNone, EndsQuote, quote_step}
 use Rattle.cb_tokens.specs.declared.quote.QuoteEnd.{QuoteEnd}
 use Rattle.cb_tokens.specs.declared.quote.QuoteEnd.TheVariants.{Closed, Unclosed}
 use Rattle.cb_tokens.proofs.Longest.{AreWithin, within_on, longest_on, none_on, within_over, longest_over, none_over, split_at}

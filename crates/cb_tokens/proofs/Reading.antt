@@ -12,7 +12,8 @@ use Rattle.cb_tokens.specs.declared.token.PieceKind.TheVariants as kinds
 use Rattle.cb_tokens.specs.declared.token.Token.{Token}
 use Rattle.cb_tokens.specs.declared.first.First.TheVariants as first
 use Rattle.cb_tokens.specs.Cut.{StandsFirst, Piece, Cuts}
-use Rattle.cb_tokens.specs.Logical.{with_piece, before_parts, split_lines, token_marks, token_of, spaced_after, later_tokens, is_token, line_tokens, counted_lines, BeginsWithLine}
+use Rattle.cb_tokens.specs.Logical.{with_piece, before_parts, split_lines, token_marks, token_of, spaced_after, later_tokens, is_token, line_tokens, counted_lines}
+use Rattle.cb_tokens.specs.inner.LineCuts.{BeginsWithLine}
 use Rattle.cb_tokens.proofs.Cutting.{piece_at, cuts_append, cuts_push, nothing_left, open_behind, piece_some, piece_within}
 
 -- the piece ends a logical line

@@ -17,10 +17,11 @@ use Rattle.cb_tokens.specs.declared.token.PieceKind.TheVariants.{White, Comment,
 use Rattle.cb_tokens.specs.declared.first.First.TheVariants as first
 use Rattle.cb_tokens.specs.Forms.{is_white, is_line_feed, is_name_start, is_name_byte, is_quote, is_identifier, is_number, is_number_rest, continues_number, is_prefix_letter, is_character, is_string, is_punctuator, punctuators, is_unclosed, is_stray, is_white_run, is_open_comment, fits, stays_unclosed}
 use Rattle.cb_tokens.specs.declared.class.Class.TheVariants as classes
-use Rattle.cb_tokens.specs.Classes.{class_of}
+use Rattle.cb_tokens.specs.inner.Classes.{class_of}
 use Rattle.cb_tokens.specs.Cut.{StandsFirst, Piece, Cuts}
 use Rattle.cb_tokens.specs.Logical.{token_marks}
-use Rattle.cb_tokens.specs.Plain.{is_quiet, is_apart, is_plain, IsBreak, IsPlainTo, IsPlainOf, IsTokenAt, CutsPlain}
+use Rattle.cb_tokens.specs.Plain.{is_quiet, is_plain, CutsPlain}
+use Rattle.cb_tokens.specs.inner.Breaks.{is_apart, IsBreak, IsPlainTo, IsPlainOf, IsTokenAt}
 use Rattle.cb_tokens.proofs.Punctuators.{of_punctuators}
 use Rattle.cb_tokens.proofs.Heads.{start, starts}
 use Rattle.cb_tokens.proofs.Arms.{no_slash_closed, white_stands}

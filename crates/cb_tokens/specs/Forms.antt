@@ -118,7 +118,7 @@ unfoldable pub is_white_run : List ℕ → Bool
 is_white_run [] = false
 is_white_run (b ∷ bs) = is_white b && list_all is_white bs
 
--- the two bytes at the front
+-- the two bytes at the front (own)
 unfoldable pub begins_with : ℕ → ℕ → List ℕ → Bool
 begins_with first second [] = false
 begins_with first second (b ∷ []) = false

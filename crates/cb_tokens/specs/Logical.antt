@@ -8,64 +8,55 @@ use Rattle.cb_tokens.specs.declared.token.TokenKind.{TokenKind}
 use Rattle.cb_tokens.specs.declared.token.PieceKind.{PieceKind}
 use Rattle.cb_tokens.specs.declared.token.PieceKind.TheVariants as kinds
 use Rattle.cb_tokens.specs.declared.token.Token.{Token}
-use Rattle.cb_tokens.specs.Cut.{Piece, IsCut, HasOpenComment}
+use Rattle.cb_tokens.specs.Cut.{Piece, IsCut}
 
--- a logical line: its tokens, and the set of the physical lines on which a byte of one of them stands
+-- a logical line: its tokens, and the set of the physical lines on which a byte of one of them stands (own)
 pub record Line : Type 0 where
   pub tokens : List Token
   pub counted : List ℕ
 
--- the pieces with one more in the first part, which is made where there is none
+-- the pieces with one more in the first part, which is made where there is none (own)
 abbrev pub with_piece : Piece → List (List Piece) → List (List Piece)
 with_piece p [] = (p ∷ []) ∷ []
 with_piece p (part ∷ parts) = (p ∷ part) ∷ parts
 
--- the piece begins a new part where it ends a line, and else stands in the first part
+-- the piece begins a new part where it ends a line, and else stands in the first part (own)
 abbrev pub before_parts : PieceKind → Piece → List (List Piece) → List (List Piece)
-before_parts kinds.White p parts = with_piece p parts
-before_parts kinds.Comment p parts = with_piece p parts
 before_parts kinds.LineEnd p parts = [] ∷ parts
-before_parts (kinds.Token kind) p parts = with_piece p parts
+before_parts _ p parts = with_piece p parts
 
--- the pieces between line ends, without an empty part after the last (5.1.1.2 phase 2)
+-- the pieces between line ends, which stand outside comments, without an empty part after the last (5.1.1.2 phase 2; own)
 abbrev pub split_lines : List Piece → List (List Piece)
 split_lines [] = []
 split_lines (p ∷ ps) = before_parts p.kind p (split_lines ps)
 
--- the marks of a token, and none of another piece
+-- the marks of a token, and none of another piece (own)
 abbrev pub token_marks : PieceKind → List Mark → List Mark
-token_marks kinds.White ms = []
-token_marks kinds.Comment ms = []
-token_marks kinds.LineEnd ms = []
 token_marks (kinds.Token kind) ms = ms
+token_marks _ ms = []
 
--- the token that a piece is, or none
+-- the token that a piece is, or none (6.4 paragraph 1)
 abbrev pub token_of : PieceKind → List Mark → Bool → List Token
-token_of kinds.White ms spaced = []
-token_of kinds.Comment ms spaced = []
-token_of kinds.LineEnd ms spaced = []
 token_of (kinds.Token kind) ms spaced = record { kind = kind; text = bytes_of ms; spaced = spaced } ∷ []
+token_of _ ms spaced = []
 
--- whether white space or a comment stands between the last token and what follows a piece
+-- whether white space or a comment stands between the last token and what follows a piece (6.4 paragraph 3)
 abbrev pub spaced_after : PieceKind → Bool
 spaced_after kinds.White = true
 spaced_after kinds.Comment = true
-spaced_after kinds.LineEnd = false
-spaced_after (kinds.Token kind) = false
+spaced_after _ = false
 
 -- the tokens of pieces behind a token of the same line (5.1.1.2 phase 3)
 abbrev pub later_tokens : Bool → List Piece → List Token
 later_tokens spaced [] = []
 later_tokens spaced (p ∷ ps) = token_of p.kind p.marks spaced ++ later_tokens (spaced_after p.kind) ps
 
--- the piece is a token
+-- the piece is a token (6.4 paragraph 1)
 abbrev pub is_token : PieceKind → Bool
-is_token kinds.White = false
-is_token kinds.Comment = false
-is_token kinds.LineEnd = false
 is_token (kinds.Token kind) = true
+is_token _ = false
 
--- the tokens of a logical line: the first is not spaced, whatever stands before it (5.1.1.2 phase 3)
+-- the tokens of a logical line: the first is not spaced, whatever stands before it (own)
 abbrev pub line_tokens : List Piece → List Token
 line_tokens [] = []
 line_tokens (p ∷ ps) = if is_token p.kind then later_tokens false (p ∷ ps) else line_tokens ps
@@ -74,7 +65,7 @@ line_tokens (p ∷ ps) = if is_token p.kind then later_tokens false (p ∷ ps) e
 abbrev pub counted_lines : List Piece → List ℕ
 counted_lines ps = lines_of (flat_map (λ p. token_marks p.kind p.marks) ps)
 
--- the logical line of its pieces
+-- the logical line of its pieces (own)
 abbrev pub line_of : List Piece → Line
 line_of ps = record { tokens = line_tokens ps; counted = counted_lines ps }
 
@@ -82,16 +73,10 @@ line_of ps = record { tokens = line_tokens ps; counted = counted_lines ps }
 abbrev pub logical_lines : List Piece → List Line
 logical_lines ps = map line_of (split_lines ps)
 
--- these are the logical lines of the marks
+-- these are the logical lines of the marks (5.1.1.2 phases 2 and 3)
 abbrev pub AreLinesOf : List Mark → List Line → Type 0
 AreLinesOf ms lines = (ps : List Piece) × IsCut ms ps × (lines ≡ logical_lines ps)
 
--- the marks are one token of the kind and nothing else
+-- the marks are one token of the kind and nothing else (own)
 abbrev pub IsOneToken : List Mark → TokenKind → Type 0
 IsOneToken ms kind = (p : Piece) × IsCut ms (p ∷ []) × (p.kind ≡ kinds.Token kind)
-
--- the marks begin with a logical line of these pieces: any cut of the rest goes on from it to a cut of the marks, and a
--- comment that is open in the rest is open in the marks (own)
-pub record BeginsWithLine (ms : List Mark) (part : List Piece) (rest : List Mark) : Type 0 where
-  pub cut : (ps : List Piece) → IsCut rest ps → (qs : List Piece) × IsCut ms qs × (split_lines qs ≡ part ∷ split_lines ps)
-  pub open_comment : (line : ℕ) → HasOpenComment rest line → HasOpenComment ms line

@@ -1,6 +1,6 @@
 //! The end of a block comment.
 ghost use Rattle.std.specs.Prelude.{◌≡◌, ◌==◌, ◌&&◌, ◌+◌, ◌<◌, length, slice_index};
-ghost use Rattle.cb_tokens.specs.Scan.{EndsComment};
+ghost use Rattle.cb_tokens.specs.inner.Scan.{EndsComment};
 
 use crate::lanes::endless_to;
 

@@ -1,8 +1,8 @@
 //! What stands at the front of the marks that are left.
 ghost use Rattle.std.specs.Prelude.{◌≡◌, ◌<◌, length};
-ghost use Rattle.cb_tokens.specs.Classes.{BeginsIn};
+ghost use Rattle.cb_tokens.specs.inner.Classes.{BeginsIn};
 ghost use Rattle.cb_tokens.specs.Cut.{StandsFirst};
-ghost use Rattle.cb_tokens.specs.Scan.{prefix_before_quote, quoted_kind};
+ghost use Rattle.cb_tokens.specs.inner.Scan.{prefix_before_quote, quoted_kind};
 
 use crate::class::{Class, class_of};
 use crate::comment::comment_end;

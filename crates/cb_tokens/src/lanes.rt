@@ -3,7 +3,7 @@ ghost use Rattle.std.specs.Prelude.{ℕ, ◌≡◌, ◌≢◌, ◌↔◌, ◌+�
 ghost use Rattle.std.specs.Int.{bit_at};
 ghost use Rattle.cb_tokens.specs.Forms.{is_name_byte};
 ghost use Rattle.cb_tokens.specs.Plain.{is_quiet};
-ghost use Rattle.cb_tokens.specs.Scan.{is_inner, ends_with};
+ghost use Rattle.cb_tokens.specs.inner.Scan.{is_inner, ends_with};
 
 use crate::table::is_quiet;
 use cb_paths::{LANES, bits_of, load, lowest};

@@ -3,7 +3,7 @@ ghost use Rattle.std.specs.Prelude.{◌≡◌, true, ◌∷◌};
 ghost use Rattle.std.specs.List.{list_all};
 ghost use Rattle.cb_lines.specs.Marks.{bytes_of};
 ghost use Rattle.cb_tokens.specs.Forms.{is_name_byte, is_number_rest, is_punctuator, is_quote};
-ghost use Rattle.cb_tokens.specs.Whole.{EndsAs, byte_of};
+ghost use Rattle.cb_tokens.specs.inner.Whole.{EndsAs, byte_of};
 
 use crate::number::continues_number;
 use crate::punctuator::{is_pair, is_quadruple, is_single, is_triple};

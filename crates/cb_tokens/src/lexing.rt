@@ -3,7 +3,8 @@ ghost use Rattle.std.specs.Prelude.{ℕ, ◌≡◌, ◌⊎◌, ◌<◌, ◌≤�
 ghost use Rattle.cb_lines.specs.Marks.{marks_of, bytes_of};
 ghost use Rattle.cb_lines.specs.Lines.{with_lines};
 ghost use Rattle.cb_tokens.specs.Cut.{Piece, HasOpenComment};
-ghost use Rattle.cb_tokens.specs.Logical.{AreLinesOf, BeginsWithLine, line_tokens, counted_lines};
+ghost use Rattle.cb_tokens.specs.Logical.{AreLinesOf, line_tokens, counted_lines};
+ghost use Rattle.cb_tokens.specs.inner.LineCuts.{BeginsWithLine};
 
 use crate::fault::LexFault;
 use crate::first::{First, first_piece};

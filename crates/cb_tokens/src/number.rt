@@ -1,7 +1,7 @@
 //! Preprocessing numbers.
 ghost use Rattle.std.specs.Prelude.{◌≡◌};
 ghost use Rattle.cb_tokens.specs.Forms.{continues_number, is_number_rest};
-ghost use Rattle.cb_tokens.specs.Scan.{IsLongest};
+ghost use Rattle.cb_tokens.specs.inner.Scan.{IsLongest};
 
 use crate::runs::byte_at;
 use crate::table::is_name_byte;

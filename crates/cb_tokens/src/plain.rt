@@ -5,7 +5,8 @@ ghost use Rattle.cb_lines.specs.declared.mark.Mark.{Mark};
 ghost use Rattle.cb_lines.specs.Marks.{bytes_of, is_line_feed};
 ghost use Rattle.cb_tokens.specs.Cut.{StandsFirst};
 ghost use Rattle.cb_tokens.specs.Forms.{is_white};
-ghost use Rattle.cb_tokens.specs.Plain.{is_quiet, is_apart, IsBreak, IsTokenAt, IsPlainOf, CutsPlain};
+ghost use Rattle.cb_tokens.specs.Plain.{is_quiet, CutsPlain};
+ghost use Rattle.cb_tokens.specs.inner.Breaks.{is_apart, IsBreak, IsTokenAt, IsPlainOf};
 ghost use Rattle.cb_tokens.specs.declared.first.First.{First};
 ghost use Rattle.cb_tokens.specs.declared.token.PieceKind.{PieceKind};
 ghost use Rattle.cb_tokens.specs.declared.token.TokenKind.{TokenKind};
@@ -102,7 +103,7 @@ fn is_feed_at(bytes: &[u8], at: usize) -> bool
 
 /// Whether a piece may go over to a byte that is not quiet from the one before it: to a quote behind what a name goes on with.
 #[inline]
-#[tactic(auto, unfolding(crate::specs::Plain::is_quiet, crate::specs::Plain::is_apart, crate::specs::Forms::is_line_feed, crate::specs::Forms::is_quote))]
+#[tactic(auto, unfolding(crate::specs::Plain::is_quiet, crate::specs::inner::Breaks::is_apart, crate::specs::Forms::is_line_feed, crate::specs::Forms::is_quote))]
 fn may_go_on(before: u8, byte: u8) -> bool
     requires { is_quiet byte ≡ false }
     ensures feed { byte ≡ 10 → result ≡ false }

@@ -1,7 +1,7 @@
 //! Punctuators.
 ghost use Rattle.std.specs.Prelude.{◌≡◌, true, take, [], ◌∷◌};
 ghost use Rattle.cb_tokens.specs.Forms.{is_punctuator};
-ghost use Rattle.cb_tokens.specs.Scan.{IsLongest};
+ghost use Rattle.cb_tokens.specs.inner.Scan.{IsLongest};
 
 use crate::runs::byte_at;
 use crate::table::is_second;

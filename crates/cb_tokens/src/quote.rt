@@ -1,7 +1,7 @@
 //! The end of a quote.
 ghost use Rattle.std.specs.Prelude.{◌≡◌, ◌<◌, true, length};
 ghost use Rattle.cb_tokens.specs.Forms.{is_quote};
-ghost use Rattle.cb_tokens.specs.Scan.{EndsQuote, quote_step};
+ghost use Rattle.cb_tokens.specs.inner.Scan.{EndsQuote, quote_step};
 
 use crate::lanes::inner_end;
 use crate::runs::is_line_feed;

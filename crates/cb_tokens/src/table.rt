@@ -2,7 +2,7 @@
 ghost use Rattle.std.specs.Prelude.{◌≡◌};
 ghost use Rattle.cb_tokens.specs.Forms.{is_white, is_name_byte};
 ghost use Rattle.cb_tokens.specs.Plain.{is_quiet};
-ghost use Rattle.cb_tokens.specs.Scan.{is_second};
+ghost use Rattle.cb_tokens.specs.inner.Scan.{is_second};
 
 const WHITE: u8 = 1;
 

@@ -2,11 +2,11 @@
 ghost use Rattle.std.specs.Prelude.{◌≡◌, false, ◌∷◌, drop, Option, IfSome};
 ghost use Rattle.std.specs.List.{list_all};
 ghost use Rattle.cb_lines.specs.Marks.{marks_of, bytes_of};
-ghost use Rattle.cb_tokens.specs.Classes.{BeginsIn};
+ghost use Rattle.cb_tokens.specs.inner.Classes.{BeginsIn};
 ghost use Rattle.cb_tokens.specs.Forms.{is_name_byte};
 ghost use Rattle.cb_tokens.specs.Kinds.{token_kind};
 ghost use Rattle.cb_tokens.specs.Logical.{IsOneToken};
-ghost use Rattle.cb_tokens.specs.Whole.{IsDecided, closed_as};
+ghost use Rattle.cb_tokens.specs.inner.Whole.{IsDecided, closed_as};
 
 use crate::class::{Class, class_of};
 use crate::first::{First, first_piece, quoted_kind};

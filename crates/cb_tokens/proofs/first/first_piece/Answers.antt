@@ -2,9 +2,9 @@ use Rattle.std.proofs.Common.{◌≡◌, ℕ, ◌<◌, List, length, get_or, sym
 use Rattle.cb_tokens.specs.declared.class.Class.{Class}
 use Rattle.cb_tokens.specs.declared.class.Class.TheVariants as classes
 use Rattle.cb_tokens.specs.Forms.{is_number_rest}
-use Rattle.cb_tokens.specs.Classes.{class_of, BeginsIn}
+use Rattle.cb_tokens.specs.inner.Classes.{class_of, BeginsIn}
 use Rattle.cb_tokens.specs.Cut.{StandsFirst}
-use Rattle.cb_tokens.specs.Scan.{IsLongest}
+use Rattle.cb_tokens.specs.inner.Scan.{IsLongest}
 use Rattle.cb_tokens.specs.declared.first.First.TheVariants as first
 use Rattle.cb_tokens.specs.declared.token.PieceKind.TheVariants as kinds
 use Rattle.cb_tokens.specs.declared.token.TokenKind.TheVariants as tokens

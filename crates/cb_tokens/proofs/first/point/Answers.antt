@@ -1,6 +1,6 @@
 use Rattle.std.proofs.Common.{get_or, subst}
 use Rattle.cb_tokens.specs.Forms.{is_number_rest}
-use Rattle.cb_tokens.specs.Scan.{IsLongest}
+use Rattle.cb_tokens.specs.inner.Scan.{IsLongest}
 use Rattle.cb_tokens.proofs.MoreArms.{point_number_stands, point_stands, point_first}
 use Rattle.cb_tokens.proofs.first.point.Goals as goal
 

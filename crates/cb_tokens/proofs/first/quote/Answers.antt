@@ -1,6 +1,6 @@
 use Rattle.std.proofs.Common.{◌+◌, get_or, sym, subst}
 use Rattle.cb_tokens.specs.Cut.{StandsFirst}
-use Rattle.cb_tokens.specs.Scan.{EndsQuote}
+use Rattle.cb_tokens.specs.inner.Scan.{EndsQuote}
 use Rattle.cb_tokens.specs.declared.first.First.TheVariants as first
 use Rattle.cb_tokens.specs.declared.token.PieceKind.TheVariants as kinds
 use Rattle.cb_tokens.specs.declared.quote.QuoteEnd.TheVariants.{Closed, Unclosed}

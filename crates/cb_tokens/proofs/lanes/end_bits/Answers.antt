@@ -1,5 +1,5 @@
 use Rattle.std.proofs.Common.{◌≡◌, ℕ, ◌+◌, get_or, sym, ap, ◌∙◌, arith}
-use Rattle.cb_tokens.specs.Scan.{ends_with}
+use Rattle.cb_tokens.specs.inner.Scan.{ends_with}
 use Rattle.cb_tokens.proofs.Masks.{both_there, not_both}
 use Rattle.cb_tokens.proofs.lanes.end_bits.Goals as goal
 

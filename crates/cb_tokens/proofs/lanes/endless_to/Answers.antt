@@ -1,7 +1,7 @@
 use Rattle.std.proofs.Common.{ℕ, ◌+◌, false, get_or, ap, ◌∙◌, arith}
 use Rattle.std.specs.Int.{bit_at}
 use Rattle.std.proofs.lemmas.Nat.Bits.{bit_at-zero}
-use Rattle.cb_tokens.specs.Scan.{ends_with}
+use Rattle.cb_tokens.specs.inner.Scan.{ends_with}
 use Rattle.cb_tokens.proofs.Masks.{pass_on}
 use Rattle.cb_tokens.proofs.lanes.endless_to.Goals as goal
 

@@ -1,5 +1,5 @@
 use Rattle.std.proofs.Common.{◌≡◌, ℕ, ◌+◌, ◌-◌, ◌<◌, ◌≤◌, false, length, slice_index}
-use Rattle.cb_tokens.specs.Scan.{ends_with}
+use Rattle.cb_tokens.specs.inner.Scan.{ends_with}
 use Rattle.cb_tokens.proofs.lanes.endless_to.Given as goal
 
 abbrev pub invariant-lanes : goal.invariant-lanes

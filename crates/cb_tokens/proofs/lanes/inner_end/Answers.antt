@@ -1,7 +1,7 @@
 use Rattle.std.proofs.Common.{ℕ, true, get_or, ap, ◌∙◌, arith}
 use Rattle.std.specs.Int.{bit_at}
 use Rattle.std.proofs.lemmas.Nat.Bits.{bit_at-zero}
-use Rattle.cb_tokens.specs.Scan.{is_inner}
+use Rattle.cb_tokens.specs.inner.Scan.{is_inner}
 use Rattle.cb_tokens.proofs.Masks.{pass_on}
 use Rattle.cb_tokens.proofs.lanes.inner_end.Goals as goal
 

@@ -1,5 +1,5 @@
 use Rattle.std.proofs.Common.{◌≡◌, ℕ, ◌-◌, ◌<◌, ◌≤◌, true, length, slice_index}
-use Rattle.cb_tokens.specs.Scan.{is_inner}
+use Rattle.cb_tokens.specs.inner.Scan.{is_inner}
 use Rattle.cb_tokens.proofs.lanes.inner_end.Given as goal
 
 abbrev pub invariant-lanes : goal.invariant-lanes

@@ -1,5 +1,5 @@
 use Rattle.std.proofs.Common.{sym, ap, ◌∙◌}
-use Rattle.cb_tokens.specs.Scan.{is_inner}
+use Rattle.cb_tokens.specs.inner.Scan.{is_inner}
 use Rattle.cb_tokens.proofs.Masks.{some_stop, none_stops}
 use Rattle.cb_tokens.proofs.lanes.stop_bits.Goals as goal
 

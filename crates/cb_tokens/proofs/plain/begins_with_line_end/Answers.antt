@@ -4,7 +4,7 @@ use Rattle.cb_tokens.specs.declared.class.Class.TheVariants as classes
 use Rattle.cb_tokens.specs.declared.first.First.TheVariants as first
 use Rattle.cb_tokens.specs.declared.token.PieceKind.TheVariants as kinds
 use Rattle.cb_tokens.specs.Forms.{fits, is_white, is_line_feed, is_name_start, is_prefix_letter, is_quote}
-use Rattle.cb_tokens.specs.Classes.{class_of}
+use Rattle.cb_tokens.specs.inner.Classes.{class_of}
 use Rattle.cb_tokens.specs.Cut.{StandsFirst}
 use Rattle.cb_tokens.proofs.Arms.{line_end_stands}
 use Rattle.cb_tokens.proofs.plain.begins_with_line_end.Goals as goal

@@ -1,5 +1,5 @@
 use Rattle.std.proofs.Common.{◌≡◌, ◌==◌, ℕ, ◌-◌, ◌<◌, false, slice_index}
-use Rattle.cb_tokens.specs.Plain.{IsPlainOf}
+use Rattle.cb_tokens.specs.inner.Breaks.{IsPlainOf}
 use Rattle.cb_tokens.proofs.plain.plain_stretch.Given as goal
 
 abbrev pub invariant-runs : goal.invariant-runs

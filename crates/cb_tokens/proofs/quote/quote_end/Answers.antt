@@ -1,6 +1,6 @@
 use Rattle.std.proofs.Common.{◌≡◌, ℕ, ◌+◌, ◌≤◌, ◌==◌, List, ◌<◌, true, false, length, get_or, refl, sym, subst, arith, ne_eqb}
 use Rattle.cb_tokens.specs.Forms.{is_quote}
-use Rattle.cb_tokens.specs.Scan.{quote_step, is_inner}
+use Rattle.cb_tokens.specs.inner.Scan.{quote_step, is_inner}
 use Rattle.cb_tokens.proofs.Quotes.{QuoteAhead, ahead_start, ahead_closed, ahead_feed, ahead_step, ahead_end, ahead_run, quote_some}
 use Rattle.cb_tokens.proofs.quote.quote_end.Goals as goal
 

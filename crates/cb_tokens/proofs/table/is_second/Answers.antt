@@ -1,7 +1,7 @@
 use Rattle.std.proofs.Common.{refl, arith}
 use Rattle.cb_tokens.specs.declared.table.TheConstants.{FLAGS}
 use Rattle.cb_tokens.specs.Forms.{punctuators}
-use Rattle.cb_tokens.specs.Scan.{is_second}
+use Rattle.cb_tokens.specs.inner.Scan.{is_second}
 use Rattle.cb_tokens.proofs.Flags.{from_table}
 use Rattle.cb_tokens.proofs.table.is_second.Goals as goal
 

@@ -4,8 +4,8 @@ use Rattle.cb_lines.specs.Marks.{marks_of, bytes_of}
 use Rattle.cb_tokens.specs.declared.token.TokenKind.{TokenKind}
 use Rattle.cb_tokens.specs.declared.class.Class.{Class}
 use Rattle.cb_tokens.specs.declared.class.Class.TheVariants as classes
-use Rattle.cb_tokens.specs.Classes.{class_of, BeginsIn}
-use Rattle.cb_tokens.specs.Whole.{IsDecided}
+use Rattle.cb_tokens.specs.inner.Classes.{class_of, BeginsIn}
+use Rattle.cb_tokens.specs.inner.Whole.{IsDecided}
 use Rattle.cb_tokens.proofs.MarksLeft.{none_is, whole_is}
 use Rattle.cb_tokens.proofs.Decided.{nothing_decided, white_decided, line_end_decided, name_decided, number_decided, single_decided, operator_decided, slash_decided, stray_decided}
 use Rattle.cb_tokens.proofs.whole.decide.Goals as goal

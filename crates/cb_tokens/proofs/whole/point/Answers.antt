@@ -1,7 +1,7 @@
 use Rattle.std.proofs.Common.{drop, sym, ap, ◌∙◌, subst, ◌∷◌}
 use Rattle.cb_lines.specs.Marks.{marks_of, bytes_of}
 use Rattle.cb_tokens.specs.Forms.{is_number_rest, is_punctuator, fits}
-use Rattle.cb_tokens.specs.Whole.{IsDecided}
+use Rattle.cb_tokens.specs.inner.Whole.{IsDecided}
 use Rattle.cb_tokens.proofs.MarksLeft.{digit_none, digit_is}
 use Rattle.cb_tokens.proofs.Decided.{point_number, point_none}
 use Rattle.cb_tokens.proofs.whole.point.Goals as goal

@@ -1,6 +1,6 @@
 use Rattle.cb_lines.specs.Marks.{bytes_of}
 use Rattle.std.proofs.Common.{sym, ◌∷◌, Some, subst}
-use Rattle.cb_tokens.specs.Whole.{IsDecided}
+use Rattle.cb_tokens.specs.inner.Whole.{IsDecided}
 use Rattle.cb_tokens.specs.declared.left.QuoteLeft.TheVariants.{Closed, Unclosed, Broken}
 use Rattle.cb_tokens.proofs.QuoteArms.{is_quote_first}
 use Rattle.cb_tokens.proofs.Decided.{quote_decided}

@@ -1,4 +1,4 @@
--- Classes of bytes, by what may begin with them. No public clause names these words.
+-- Classes of bytes, by what may begin with them.
 use Rattle.std.specs.Prelude.{◌≡◌, ℕ, ◌<◌, ◌==◌, Bool, if◌then◌else◌, List, length, slice_index, codes}
 use Rattle.std.specs.List.{list_any}
 use Rattle.std.specs.Char.{is_ascii_digit}

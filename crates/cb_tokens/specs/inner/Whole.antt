@@ -1,4 +1,4 @@
--- What the recognisers of whole tokens answer. No public clause names these words.
+-- What the recognisers of whole tokens answer.
 use Rattle.std.specs.Prelude.{◌≡◌, ℕ, true, false, List, Option, Some, None}
 use Rattle.cb_lines.specs.declared.mark.Mark.{Mark}
 use Rattle.cb_tokens.specs.Forms.{fits, closes, stays_unclosed}

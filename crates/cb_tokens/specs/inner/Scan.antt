@@ -1,4 +1,4 @@
--- What the scanners of single forms answer. No public clause names these words.
+-- What the scanners of single forms answer.
 use Rattle.std.specs.Prelude.{◌≡◌, ℕ, ◌+◌, ◌≤◌, ◌==◌, ◌&&◌, ◌||◌, Bool, true, false, not, nat_lt, if◌then◌else◌, List, length, take, slice_index, Option, Some, None}
 use Rattle.std.specs.List.{list_any}
 use Rattle.cb_tokens.specs.Forms.{is_quote, is_line_feed, punctuators, closes, stays_unclosed, ends_comment, has_comment_end}
