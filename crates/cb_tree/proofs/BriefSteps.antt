@@ -10,7 +10,7 @@ use Rattle.cb_tokens.specs.declared.token.PieceKind.TheVariants as kinds
 use Rattle.cb_tokens.specs.Cut.{Piece}
 use Rattle.cb_tokens.specs.Logical.{with_piece, later_tokens, token_marks, token_of, spaced_after}
 use Rattle.cb_tree.specs.Kinds.{is_hash}
-use Rattle.cb_tree.specs.Reads.{Brief, Directive, Run, solid, run_before, briefs_of, run_on, directive_on}
+use Rattle.cb_tree.specs.inner.Reads.{Brief, Directive, Run, solid, run_before, briefs_of, run_on, directive_on}
 
 -- white space or a comment at the start of a line changes nothing
 pub skip_white : (m : List Mark) (S : List (List Piece)) → briefs_of (with_piece (record { kind = kinds.White; marks = m }) S) ≡ briefs_of S

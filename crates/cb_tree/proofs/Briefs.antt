@@ -1,91 +1,71 @@
--- The nodes of a cut, in brief.
-use Rattle.std.proofs.Common.{◌≡◌, Bool, true, false, if◌then◌else◌, List, [], ◌∷◌, ◌++◌, map, refl, ap, ◌∙◌}
+-- The nodes of logical lines, by the marks of their pieces.
+use Rattle.std.proofs.Common.{◌≡◌, ℕ, Bool, true, false, if◌then◌else◌, List, [], ◌∷◌, ◌++◌, map, refl, sym, ap, ◌∙◌}
+use Rattle.std.specs.Str.{bytes_eq}
+use Rattle.std.specs.Prelude.{codes}
 use Rattle.std.proofs.lemmas.Grind.{flat_map-append}
 use Rattle.cb_lines.specs.declared.mark.Mark.{Mark}
 use Rattle.cb_lines.specs.Lines.{lines_of}
 use Rattle.cb_tokens.specs.declared.token.Token.{Token}
-use Rattle.cb_tokens.specs.declared.token.PieceKind.{PieceKind}
-use Rattle.cb_tokens.specs.declared.token.PieceKind.TheVariants as kinds
+use Rattle.cb_tokens.specs.Kinds.{is_identifier_kind}
 use Rattle.cb_tokens.specs.Cut.{Piece}
-use Rattle.cb_tokens.specs.Logical.{split_lines, line_tokens, token_marks}
-use Rattle.cb_tree.specs.declared.node.NodeKind.TheVariants.{Text}
-use Rattle.cb_tree.specs.Kinds.{is_hash, is_directive, kind_of}
-use Rattle.cb_tree.specs.Nodes.{node_of, nodes_of, groups_of, join_text, before_groups}
-use Rattle.cb_tree.specs.Reads.{Brief, Directive, Run, node_in_brief, solid, run_before, line_before, briefs_of}
-
--- a group in brief
-abbrev summary : List Piece → Brief
-summary g = if is_directive (line_tokens g) then Directive (line_tokens g) (solid g) else Run (solid g)
-
-chosen : (b : Bool) (ts : List Token) (ms : List Mark)
-    → (if b then record { kind = kind_of ts; tokens = ts; counted = lines_of ms } else record { kind = Text; tokens = []; counted = lines_of ms })
-    ≡ node_in_brief (if b then Directive ts ms else Run ms)
-chosen true ts ms = refl
-chosen false ts ms = refl
-
-node_is : (g : List Piece) → node_of g ≡ node_in_brief (summary g)
-node_is g = chosen (is_directive (line_tokens g)) (line_tokens g) (solid g)
-
-nodes_are : (gs : List (List Piece)) → map node_of gs ≡ map node_in_brief (map summary gs)
-nodes_are [] = refl
-nodes_are (g ∷ gs) = cc (node_is g, nodes_are gs)
-
--- what follows a line with a token changes nothing of its first token
-first_piece_stays : (k : PieceKind) (m : List Mark) (ps xs : List Piece) (t : Token) (ts : List Token)
-    → (line_tokens ps ≡ t ∷ ts → is_directive (line_tokens (ps ++ xs)) ≡ is_hash t)
-    → line_tokens (record { kind = k; marks = m } ∷ ps) ≡ t ∷ ts
-    → is_directive (line_tokens (record { kind = k; marks = m } ∷ (ps ++ xs))) ≡ is_hash t
-first_piece_stays kinds.White m ps xs t ts go h = go h
-first_piece_stays kinds.Comment m ps xs t ts go h = go h
-first_piece_stays kinds.LineEnd m ps xs t ts go h = go h
-first_piece_stays (kinds.Token kind) m ps xs t ts go h = cc
-
-first_stays : (ps xs : List Piece) (t : Token) (ts : List Token) → line_tokens ps ≡ t ∷ ts → is_directive (line_tokens (ps ++ xs)) ≡ is_hash t
-first_stays [] xs t ts h = cc
-first_stays (p ∷ ps) xs t ts h = first_piece_stays p.kind p.marks ps xs t ts (first_stays ps xs t ts) h
+use Rattle.cb_tokens.specs.Logical.{split_lines, line_tokens, line_of, logical_lines, token_marks}
+use Rattle.cb_tree.specs.declared.node.NodeKind.{NodeKind}
+use Rattle.cb_tree.specs.declared.node.NodeKind.TheVariants.{Once, Other}
+use Rattle.cb_tree.specs.Kinds.{is_hash, kind_of, kind_of_name, begins_with_name}
+use Rattle.cb_tree.specs.Roles.{is_line}
+use Rattle.cb_tree.specs.Nodes.{Node, nodes_of, line_before, join_text, directive_node, text_node}
+use Rattle.cb_tree.specs.inner.Reads.{Brief, Directive, Run, node_in_brief, solid, run_before, briefs_of, piece_nodes}
+use Rattle.cb_tree.specs.inner.Reads as inner
+use Rattle.cb_tree.proofs.LineUnions.{lines_of_both}
 
 pub solid-append : (ps xs : List Piece) → solid (ps ++ xs) ≡ solid ps ++ solid xs
 solid-append ps xs = flat_map-append (λ p. token_marks p.kind p.marks) ps xs
 
-is_run : (g : List Piece) → is_directive (line_tokens g) ≡ false → summary g ≡ Run (solid g)
-is_run g h = ap (λ b. if b then Directive (line_tokens g) (solid g) else Run (solid g)) h
+-- no directive line is text
+either_line : (b : Bool) (x y : NodeKind) → is_line x ≡ true → is_line y ≡ true → is_line (if b then x else y) ≡ true
+either_line true x y h i = h
+either_line false x y h i = i
 
-joined_by : (b : Bool) (part gr : List Piece) (grs : List (List Piece)) (t : Token) (ts : List Token)
-    → is_directive (line_tokens gr) ≡ b → line_tokens part ≡ t ∷ ts → is_hash t ≡ false
-    → map summary (if b then part ∷ gr ∷ grs else (part ++ gr) ∷ grs) ≡ run_before (solid part) (map summary (gr ∷ grs))
-joined_by true part gr grs t ts b_is part_is h =
-    let e : summary gr ≡ Directive (line_tokens gr) (solid gr) = ap (λ b. if b then Directive (line_tokens gr) (solid gr) else Run (solid gr)) b_is in
-    let f : summary part ≡ Run (solid part) = is_run part (ap is_directive part_is ∙ h) in
-    rw (e, f) refl
-joined_by false part gr grs t ts b_is part_is h =
-    let e : summary gr ≡ Run (solid gr) = is_run gr b_is in
-    let f : summary (part ++ gr) ≡ Run (solid (part ++ gr)) = is_run (part ++ gr) (first_stays part gr t ts part_is ∙ h) in
-    rw (e, f, solid-append part gr) refl
+-- an if-chain of kinds, of which the last is a line
+named_line : (name : List ℕ) (rest : List Token) → is_line (kind_of_name name rest) ≡ true
+unfolding kind_of_name
+named_line name rest =
+    either_line (bytes_eq name (codes "if")) _ _ refl (either_line (bytes_eq name (codes "ifdef")) _ _ refl (either_line (bytes_eq name (codes "ifndef")) _ _ refl
+    (either_line (bytes_eq name (codes "elif")) _ _ refl (either_line (bytes_eq name (codes "else")) _ _ refl (either_line (bytes_eq name (codes "endif")) _ _ refl
+    (either_line (bytes_eq name (codes "define")) _ _ refl (either_line (bytes_eq name (codes "undef")) _ _ refl (either_line (bytes_eq name (codes "include")) _ _ refl
+    (either_line (bytes_eq name (codes "error")) _ _ refl
+    (either_line (bytes_eq name (codes "pragma")) (if begins_with_name (codes "once") rest then Once else Other) Other
+    (either_line (begins_with_name (codes "once") rest) Once Other refl refl) refl))))))))))
 
-joined : (part : List Piece) (gs : List (List Piece)) (t : Token) (ts : List Token)
-    → line_tokens part ≡ t ∷ ts → is_hash t ≡ false → map summary (join_text part gs) ≡ run_before (solid part) (map summary gs)
-joined part [] t ts part_is h = ap (λ s. s ∷ []) (is_run part (ap is_directive part_is ∙ h))
-joined part (gr ∷ grs) t ts part_is h = joined_by (is_directive (line_tokens gr)) part gr grs t ts refl part_is h
+directive_line : (tokens : List Token) → is_line (kind_of tokens) ≡ true
+directive_line [] = refl
+directive_line (hash ∷ []) = refl
+directive_line (hash ∷ t ∷ ts) = either_line (is_identifier_kind t.kind) (kind_of_name t.text ts) Other (named_line t.text ts) refl
 
-before_by : (b : Bool) (part : List Piece) (gs : List (List Piece)) (t : Token) (ts : List Token)
-    → is_hash t ≡ b → line_tokens part ≡ t ∷ ts
-    → map summary (if b then part ∷ gs else join_text part gs)
-    ≡ (if b then Directive (t ∷ ts) (solid part) ∷ map summary gs else run_before (solid part) (map summary gs))
-before_by true part gs t ts h part_is =
-    let e : summary part ≡ Directive (line_tokens part) (solid part) = ap (λ b. if b then Directive (line_tokens part) (solid part) else Run (solid part)) (ap is_directive part_is ∙ h) in
-    cc
-before_by false part gs t ts h part_is = joined part gs t ts part_is h
+-- a line of text before nodes
+joined : (ms : List Mark) (bs : List Brief) → join_text (lines_of ms) (map node_in_brief bs) ≡ map node_in_brief (run_before ms bs)
+joined ms [] = refl
+joined ms (Run more ∷ bs) = ap (λ counted. text_node counted ∷ map node_in_brief bs) (sym (lines_of_both ms more))
+joined ms (Directive ts more ∷ bs) = rw (directive_line ts) refl
 
-before : (tokens : List Token) (part : List Piece) (gs : List (List Piece)) → line_tokens part ≡ tokens
-    → map summary (before_groups tokens part gs) ≡ line_before tokens (solid part) (map summary gs)
-before [] part gs part_is = refl
-before (t ∷ ts) part gs part_is = before_by (is_hash t) part gs t ts refl part_is
+before_by : (b : Bool) (t : Token) (ts : List Token) (ms : List Mark) (bs : List Brief)
+    → (if b then directive_node (t ∷ ts) (lines_of ms) ∷ map node_in_brief bs else join_text (lines_of ms) (map node_in_brief bs))
+    ≡ map node_in_brief (if b then Directive (t ∷ ts) ms ∷ bs else run_before ms bs)
+before_by true t ts ms bs = refl
+before_by false t ts ms bs = joined ms bs
 
-groups_are : (parts : List (List Piece)) → map summary (groups_of parts) ≡ briefs_of parts
-groups_are [] = refl
-groups_are (part ∷ parts) =
-    before (line_tokens part) part (groups_of parts) refl ∙ ap (line_before (line_tokens part) (solid part)) (groups_are parts)
+before : (tokens : List Token) (ms : List Mark) (bs : List Brief) → line_before tokens (lines_of ms) (map node_in_brief bs) ≡ map node_in_brief (inner.line_before tokens ms bs)
+before [] ms bs = refl
+before (t ∷ ts) ms bs = before_by (is_hash t) t ts ms bs
 
--- the nodes of a cut, in brief
-pub in_brief : (ps : List Piece) → nodes_of ps ≡ map node_in_brief (briefs_of (split_lines ps))
-in_brief ps = nodes_are (groups_of (split_lines ps)) ∙ ap (map node_in_brief) (groups_are (split_lines ps))
+parts_nodes : (parts : List (List Piece)) → nodes_of (map line_of parts) ≡ map node_in_brief (briefs_of parts)
+parts_nodes [] = refl
+parts_nodes (part ∷ parts) =
+    ap (line_before (line_tokens part) (lines_of (solid part))) (parts_nodes parts) ∙ before (line_tokens part) (solid part) (briefs_of parts)
+
+-- the nodes of a cut's logical lines are those of its pieces
+pub line_nodes : (ps : List Piece) → nodes_of (logical_lines ps) ≡ piece_nodes ps
+line_nodes ps = parts_nodes (split_lines ps)
+
+pub in_brief : (ps : List Piece) → piece_nodes ps ≡ map node_in_brief (briefs_of (split_lines ps))
+in_brief ps = refl

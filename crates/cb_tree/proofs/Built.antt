@@ -4,19 +4,22 @@ use Prim.Native.Nat.{zero, suc}
 use Rattle.std.specs.List.{flat_map, range_with_len}
 use Rattle.std.proofs.lemmas.List.{append-nil}
 use Rattle.cb_lines.specs.Marks.{marks_of, mark_at, is_deleted}
+use Rattle.cb_tokens.specs.Logical.{logical_lines}
 use Rattle.cb_tree.specs.declared.fault.BadSource.{BadSource}
 use Rattle.cb_tree.specs.declared.fault.BuildFault.{BuildFault}
 use Rattle.cb_tree.specs.declared.fault.BuildFault.TheVariants.{Bad, NoMemory}
-use Rattle.cb_tree.specs.Nodes.{Node, nodes_of}
+use Rattle.cb_tree.specs.Nodes.{Node}
+use Rattle.cb_tree.specs.inner.Reads.{piece_nodes}
+use Rattle.cb_tree.proofs.Briefs.{line_nodes}
 use Rattle.cb_tree.specs.Sound.{Sound, Unsound, IsRead, IsWithinLimits, IsCutInto, open_comment, faulty, sound}
-use Rattle.cb_tree.specs.Reads.{Reads, Refuses, AreSound, IsReadAs}
+use Rattle.cb_tree.specs.inner.Reads.{Reads, Refuses, AreSound, IsReadAs}
 
 -- the nodes of a whole reading
 cut_into : (source : List ℕ) (nodes : List Node) → Reads (marks_of source) nodes [] → IsCutInto source nodes
 cut_into source nodes a = record {
-  pieces = a.pieces;
-  cut = a.cut;
-  nodes_are = sym (append-nil nodes) ∙ (sym (a.nodes_are [] refl) ∙ ap nodes_of (append-nil a.pieces));
+  lines = logical_lines a.pieces;
+  cut = (a.pieces, a.cut, refl);
+  nodes_are = sym (append-nil nodes) ∙ (sym (a.nodes_are [] refl) ∙ (ap piece_nodes (append-nil a.pieces) ∙ sym (line_nodes a.pieces)));
 }
 
 pub read_sound : (source : List ℕ) (nodes : List Node) → IsWithinLimits source → AreSound (marks_of source) nodes → IsRead source (Sound nodes)

@@ -16,10 +16,12 @@ use Rattle.cb_tokens.specs.Forms.{fits}
 use Rattle.cb_tokens.specs.Cut.{Piece, StandsFirst, Cuts, IsCut}
 use Rattle.cb_tokens.specs.Logical.{split_lines, before_parts, with_piece, line_tokens}
 use Rattle.cb_tree.specs.Kinds.{is_hash}
-use Rattle.cb_tree.specs.Nodes.{Node, first_of, node_line, AreCounted, nodes_of}
-use Rattle.cb_tree.specs.Reads.{Brief, Directive, Run, node_in_brief, solid, run_before, line_before, briefs_of}
+use Rattle.cb_tree.specs.Nodes.{Node, first_of, node_line, AreCounted}
+use Rattle.cb_tree.specs.inner.Reads.{piece_nodes}
+use Rattle.cb_tree.specs.inner.Reads.{Brief, Directive, Run, node_in_brief, solid, run_before, line_before, briefs_of}
 use Rattle.cb_tree.proofs.LineMarks.{IsOrdered, AllOn, AllOn-weaker, AllOn-append, ordered_split, feed_split, ordered_marks}
 use Rattle.cb_tree.proofs.Briefs.{in_brief}
+use Rattle.cb_tree.proofs.LineUnions.{with-before, with-same, with-behind}
 use Rattle.cb_tree.proofs.Pieces.{some_bytes}
 
 -- each logical line stands on lines behind those of the one before it, and has a mark of a token where it has a token
@@ -142,16 +144,6 @@ abbrev Between : ℕ → ℕ → List ℕ → Type 0
 Between low high [] = Unit {0}
 Between low high (l ∷ ls) = (low ≤ l) × (l ≤ high) × Between (l + 1) high ls
 
--- a rising list with one more number
-with-before : (line l : ℕ) (ls : List ℕ) → line < l → with_line line (l ∷ ls) ≡ line ∷ l ∷ ls
-with-before line l ls h = rw (lt-ltb line l h) refl
-
-with-same : (line l : ℕ) (ls : List ℕ) → line ≡ l → with_line line (l ∷ ls) ≡ l ∷ ls
-with-same line l ls h = rw (le-ltb line l (omega arith), eq-eqb line l h) refl
-
-with-behind : (line l : ℕ) (ls : List ℕ) → l < line → with_line line (l ∷ ls) ≡ l ∷ with_line line ls
-with-behind line l ls h = rw (le-ltb line l (omega arith), ne_eqb line l (λ e. omega arith)) refl
-
 between-with : (line low high : ℕ) (ls : List ℕ) → low ≤ line → line ≤ high → Between low high ls → Between low high (with_line line ls)
 between-with line low high [] from to h = (from, to, tt)
 between-with line low high (l ∷ ls) from to h =
@@ -246,7 +238,7 @@ all_rise : (ns : List Node) → NodesRise 1 ns → IsStrictlyIncreasing (0 ∷ f
 all_rise ns h = increasing (0 ∷ flat_map (λ n. n.counted) ns) 0 (omega arith, rising_nodes ns 1 h)
 
 -- the nodes of a source that is cut
-pub counted_nodes : (source : List ℕ) (ps : List Piece) → length source ≤ 4194304 → IsCut (marks_of source) ps → AreCounted (nodes_of ps)
+pub counted_nodes : (source : List ℕ) (ps : List Piece) → length source ≤ 4194304 → IsCut (marks_of source) ps → AreCounted (piece_nodes ps)
 counted_nodes source ps few c =
     subst AreCounted (sym (in_brief ps))
     (let h = brief_nodes_rise ps (marks_of source) 1 c (ordered_marks source few) in

@@ -14,13 +14,14 @@ use Rattle.cb_tokens.specs.Logical.{split_lines, with_piece, token_of, token_mar
 use Rattle.cb_tree.specs.declared.fault.BuildFault.{BuildFault}
 use Rattle.cb_tree.specs.declared.fault.BuildFault.TheVariants.{Bad, NoMemory}
 use Rattle.cb_tree.specs.Kinds.{is_hash_text}
-use Rattle.cb_tree.specs.Nodes.{nodes_of}
+use Rattle.cb_tree.specs.inner.Reads.{piece_nodes}
 use Rattle.cb_tree.specs.declared.node.NodeKind.{NodeKind}
 use Rattle.cb_tree.specs.declared.opening.Hash.{Hash}
 use Rattle.cb_tokens.specs.declared.token.TokenKind.TheVariants as token
-use Rattle.cb_tree.specs.Heads.{IsNamed, IsUnnamed, hash_text, hash_token, tokens_with}
+use Rattle.cb_tree.specs.inner.Heads.{IsNamed, IsUnnamed, hash_text, hash_token, tokens_with}
 use Rattle.cb_tree.proofs.Hash.{hash_kind}
-use Rattle.cb_tree.specs.Reads.{Reads, ReadsDirective, DirectiveStands, DirectiveGoes, Directive, node_in_brief, briefs_of, directive_on, directive_node, Tells}
+use Rattle.cb_tree.specs.inner.Reads.{Reads, ReadsDirective, DirectiveStands, DirectiveGoes, Directive, node_in_brief, briefs_of, directive_on, Tells}
+use Rattle.cb_tree.specs.Nodes.{directive_node}
 use Rattle.cb_tree.proofs.Pieces.{passes, Cuts-trans, cut_of_none, open_after}
 use Rattle.cb_tree.proofs.Briefs.{in_brief}
 use Rattle.cb_tree.proofs.BriefSteps.{directive_begins, directive_goes, directive_ends}
@@ -37,7 +38,7 @@ directive_piece ms tokens spaced counted rest k n h line same = record {
   cut = Cuts-trans ms line.pieces rest (record { kind = k; marks = take n rest } ∷ []) (drop n rest) line.cut (passes rest k n h);
   counted_are = counted_more counted line.marks (token_marks k (take n rest)) line.counted_are;
   nodes_are = λ more.
-      ap nodes_of (append_assoc line.pieces (record { kind = k; marks = take n rest } ∷ []) more)
+      ap piece_nodes (append_assoc line.pieces (record { kind = k; marks = take n rest } ∷ []) more)
       ∙ (line.nodes_are (record { kind = k; marks = take n rest } ∷ more)
       ∙ (ap (λ x. map node_in_brief (directive_on tokens spaced line.marks x)) (same more)
       ∙ ap (map node_in_brief) (directive_goes k (take n rest) tokens spaced line.marks (split_lines more))));
@@ -82,7 +83,7 @@ directive_start rest j n text h e hash = record {
 }
 
 node_first : (tokens : List Token) (counted : List ℕ) (marks : List Mark) (more : List Piece) → counted ≡ lines_of marks
-    → map node_in_brief (Directive tokens marks ∷ briefs_of (split_lines more)) ≡ directive_node tokens counted ∷ nodes_of more
+    → map node_in_brief (Directive tokens marks ∷ briefs_of (split_lines more)) ≡ directive_node tokens counted ∷ piece_nodes more
 node_first tokens counted marks more h =
     ap (λ x. directive_node tokens x ∷ map node_in_brief (briefs_of (split_lines more))) (sym h)
     ∙ ap (λ ns. directive_node tokens counted ∷ ns) (sym (in_brief more))
@@ -95,7 +96,7 @@ directive_ends_line ms tokens spaced counted rest n h line = record {
   pieces = line.pieces ++ record { kind = kinds.LineEnd; marks = take n rest } ∷ [];
   cut = Cuts-trans ms line.pieces rest (record { kind = kinds.LineEnd; marks = take n rest } ∷ []) (drop n rest) line.cut (passes rest kinds.LineEnd n h);
   nodes_are = λ more g.
-      ap nodes_of (append_assoc line.pieces (record { kind = kinds.LineEnd; marks = take n rest } ∷ []) more)
+      ap piece_nodes (append_assoc line.pieces (record { kind = kinds.LineEnd; marks = take n rest } ∷ []) more)
       ∙ (line.nodes_are (record { kind = kinds.LineEnd; marks = take n rest } ∷ more)
       ∙ (ap (map node_in_brief) (directive_ends tokens spaced line.marks (split_lines more))
       ∙ node_first tokens counted line.marks more line.counted_are));

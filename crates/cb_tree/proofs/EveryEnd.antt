@@ -8,7 +8,8 @@ use Rattle.cb_tree.specs.declared.node.NodeKind.TheVariants.{Text, If, Ifdef, If
 use Rattle.cb_tree.specs.declared.sections.OpenSection.{OpenSection}
 use Rattle.cb_tree.specs.Nodes.{Node}
 use Rattle.cb_tree.specs.Sections.{fault_at_end, first_fault}
-use Rattle.cb_tree.specs.Groups.{kinds_of, opens_group, turn_at, next_turn, end_behind, group_end_of}
+use Rattle.cb_tree.specs.Groups.{kinds_of, turn_at, next_turn, end_behind, group_end_of}
+use Rattle.cb_tree.specs.Roles.{opens_group}
 use Rattle.cb_tree.proofs.NestSteps.{Stands, goes}
 use Rattle.cb_tree.proofs.Turns.{inner}
 

@@ -8,8 +8,9 @@ use Rattle.cb_tree.specs.declared.part.Part.{Part}
 use Rattle.cb_tree.specs.declared.part.Part.TheFolds.{fold-Group}
 use Rattle.cb_tree.specs.declared.part.Group.{Group}
 use Rattle.cb_tree.specs.declared.nesting.Frame.{Frame}
-use Rattle.cb_tree.specs.Nesting.{Placed, GroupPlaces, part_step, group_step, section_step, places_in, later_places, group_places, inner_places, places_of, section_places}
-use Rattle.cb_tree.specs.Frames.{turned_places, group_ended, stacked_places, AreWithin, Puts}
+use Rattle.cb_tree.specs.Nesting.{Placed, GroupPlaces, part_step, group_step, section_step, places_in, later_places, group_places, places_of}
+use Rattle.cb_tree.specs.inner.Frames.{inner_places, section_places}
+use Rattle.cb_tree.specs.inner.Frames.{turned_places, group_ended, stacked_places, AreWithin, Puts}
 use Rattle.cb_tree.proofs.Stack.{last_first}
 
 later-push : (gs : List GroupPlaces) (head : ℕ) (inner : List Placed)

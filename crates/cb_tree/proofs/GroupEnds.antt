@@ -6,8 +6,10 @@ use Rattle.std.proofs.lemmas.List.{length-map}
 use Rattle.cb_tree.specs.Nodes.{Node}
 use Rattle.cb_tree.specs.declared.node.NodeKind.{NodeKind}
 use Rattle.cb_tree.specs.declared.node.NodeKind.TheVariants.{Text, If, Ifdef, Ifndef, Elif, Else, Endif, Define, Undef, Include, Once, Error, Other}
-use Rattle.cb_tree.specs.Trees.{entry_of}
-use Rattle.cb_tree.specs.Groups.{kinds_of, end_behind, ends_from, group_end_of, turn_at, next_turn, opens_group}
+use Rattle.cb_tree.specs.inner.Trees.{entry_of}
+use Rattle.cb_tree.specs.Groups.{kinds_of, end_behind, group_end_of, turn_at, next_turn}
+use Rattle.cb_tree.specs.Roles.{opens_group}
+use Rattle.cb_tree.specs.inner.Trees.{ends_from}
 
 -- the entry at a place
 entry_at : (kinds : List NodeKind) (node i d : ℕ) → i < length kinds

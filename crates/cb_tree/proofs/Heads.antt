@@ -10,7 +10,8 @@ use Rattle.cb_tree.specs.declared.opening.Hash.{Hash}
 use Rattle.cb_tree.specs.Kinds.{rest_of, rest_behind_hash}
 use Rattle.cb_tree.specs.Nodes.{Node}
 use Rattle.cb_tree.specs.Skeleton.{Bone}
-use Rattle.cb_tree.specs.Heads.{has_name, is_line, IsUnnamed, hash_token, name_token, lead_name, tokens_with, node_with, node_of, bone_with, node_in, nodes_in, AreWithin, kept_up_to, Adds}
+use Rattle.cb_tree.specs.inner.Heads.{has_name, IsUnnamed, hash_token, name_token, lead_name, tokens_with, node_with, node_of, bone_with, node_in, nodes_in, AreWithin, kept_up_to, Adds}
+use Rattle.cb_tree.specs.Roles.{is_line}
 
 -- more tokens behind them change no node
 pub nodes_kept : (heads : List Head) (from : ℕ) (tokens own : List Token) → AreWithin (length tokens) from heads → nodes_in (tokens ++ own) from heads ≡ nodes_in tokens from heads

@@ -2,6 +2,7 @@ pub mod Spans
 pub mod Stack
 pub mod Stretches
 pub mod LastByte
+pub mod LineUnions
 pub mod Briefs
 pub mod BriefSteps
 pub mod Pieces

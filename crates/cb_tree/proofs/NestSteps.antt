@@ -15,8 +15,9 @@ use Rattle.cb_tree.specs.declared.nesting.Nesting.{Nesting}
 use Rattle.cb_tree.specs.Nodes.{Node, node_line}
 use Rattle.cb_tree.specs.Sections.{sections_after, fault_at_end, fault_or, first_fault}
 use Rattle.cb_tree.specs.Groups.{kinds_of}
-use Rattle.cb_tree.specs.Nesting.{Placed, role_of, places_from, places_of}
-use Rattle.cb_tree.specs.Frames.{MayStand, depth_after, IsPlaced, nested_places, stacked_places, AreStacked}
+use Rattle.cb_tree.specs.Nesting.{Placed, places_from, places_of}
+use Rattle.cb_tree.specs.Roles.{role_of}
+use Rattle.cb_tree.specs.inner.Frames.{MayStand, depth_after, IsPlaced, nested_places, stacked_places, AreStacked}
 
 -- what a step over sections says of their number
 pub record Stands (kind : NodeKind) (before after : List OpenSection) : Type 0 where

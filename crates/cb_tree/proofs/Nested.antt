@@ -3,7 +3,8 @@ use Rattle.std.proofs.Common.{◌≡◌, ℕ, List, [], ◌∷◌, ◌++◌, map
 use Rattle.cb_tree.specs.declared.part.Part.{Part}
 use Rattle.cb_tree.specs.declared.part.Part.TheViews.{roll-Group}
 use Rattle.cb_tree.specs.declared.part.Part.TheFolds.{fold-Group, fold-roll-Group}
-use Rattle.cb_tree.specs.Nesting.{Placed, GroupPlaces, part_step, group_step, section_step, joined, places_in, places_of, inner_places}
+use Rattle.cb_tree.specs.Nesting.{Placed, GroupPlaces, part_step, group_step, section_step, joined, places_in, places_of}
+use Rattle.cb_tree.specs.inner.Frames.{inner_places}
 
 -- the nodes of parts, list by list
 pub joined_places : (ps : List Part) → joined (map places_in ps) ≡ places_of ps

@@ -9,14 +9,15 @@ use Rattle.cb_tokens.specs.declared.first.First.TheVariants as first
 use Rattle.cb_tokens.specs.Cut.{Piece, StandsFirst, Cuts, IsCut}
 use Rattle.cb_tokens.specs.declared.token.Token.{Token}
 use Rattle.cb_tree.specs.declared.nodes.Head.{Head}
-use Rattle.cb_tree.specs.Heads.{node_with}
+use Rattle.cb_tree.specs.inner.Heads.{node_with}
 use Rattle.cb_tree.specs.declared.fault.BadSource.{BadSource}
 use Rattle.cb_tree.specs.declared.fault.BuildFault.{BuildFault}
 use Rattle.cb_tree.specs.declared.fault.BuildFault.TheVariants.{Bad, NoMemory}
 use Rattle.cb_tree.specs.declared.sections.OpenSection.{OpenSection}
-use Rattle.cb_tree.specs.Nodes.{Node, nodes_of, node_line, total_lines}
+use Rattle.cb_tree.specs.Nodes.{Node, node_line, total_lines}
+use Rattle.cb_tree.specs.inner.Reads.{piece_nodes}
 use Rattle.cb_tree.specs.Sections.{sections_after, fault_at_end, fault_or, first_fault}
-use Rattle.cb_tree.specs.Reads.{Reads, ReadsNode, Tells, ReadsOut, Refuses, AreSound}
+use Rattle.cb_tree.specs.inner.Reads.{Reads, ReadsNode, Tells, ReadsOut, Refuses, AreSound}
 use Rattle.cb_tree.proofs.Pieces.{passes, Cuts-trans, cut_of_none, open_after}
 use Rattle.cb_tree.proofs.ReadsMore.{reads_none, reads_on, tells_after}
 
@@ -44,13 +45,13 @@ cuts_on ms ps rest k n h g =
     (ps ++ piece, Cuts-trans ms ps rest piece (drop n rest) h (passes rest k n g))
 
 -- a cut is read
-pub reads_cut : (ms : List Mark) (ps : List Piece) → IsCut ms ps → Reads ms (nodes_of ps) []
+pub reads_cut : (ms : List Mark) (ps : List Piece) → IsCut ms ps → Reads ms (piece_nodes ps) []
 reads_cut ms ps h = record {
   pieces = ps;
   cut = h;
   nodes_are = λ more g.
       let e : more ≡ [] = cut_of_none more g in
-      rw e (ap nodes_of (append-nil ps) ∙ sym (append-nil (nodes_of ps)));
+      rw e (ap piece_nodes (append-nil ps) ∙ sym (append-nil (piece_nodes ps)));
 }
 
 -- the number of counted lines of a node

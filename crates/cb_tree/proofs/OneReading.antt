@@ -3,19 +3,20 @@ use Rattle.std.proofs.Common.{◌≡◌, ℕ, ◌<◌, List, [], length, Some, N
 use Rattle.cb_lines.specs.declared.mark.Mark.{Mark}
 use Rattle.cb_lines.specs.Marks.{marks_of}
 use Rattle.cb_tokens.specs.Cut.{Piece, IsCut, HasOpenComment}
+use Rattle.cb_tokens.specs.Logical.{Line, AreLinesOf}
 use Rattle.cb_tree.specs.declared.fault.SourceKind.TheVariants as kind
 use Rattle.cb_tree.specs.declared.fault.BadSource.{BadSource}
 use Rattle.cb_tree.specs.declared.fault.BuildFault.{BuildFault}
 use Rattle.cb_tree.specs.declared.fault.BuildFault.TheVariants.{Bad, NoMemory}
 use Rattle.cb_tree.specs.declared.tree.Tree.{Tree}
-use Rattle.cb_tree.specs.Reads.{IsReadAs}
+use Rattle.cb_tree.specs.inner.Reads.{IsReadAs}
 use Rattle.cb_tree.specs.Nodes.{Node, nodes_of}
 use Rattle.cb_tree.specs.Sections.{first_fault}
 use Rattle.cb_tree.specs.Sound.{Reading, Sound, Unsound, IsRead, IsWithinLimits, IsCutInto, line_count, too_many_bytes, too_many_lines, open_comment, faulty, sound}
 
 -- marks are cut in one way, or up to one open comment
 pub record Laws : Type 0 where
-  pub cut : (ms : List Mark) (ps qs : List Piece) → IsCut ms ps → IsCut ms qs → ps ≡ qs
+  pub lines : (ms : List Mark) (a b : List Line) → AreLinesOf ms a → AreLinesOf ms b → a ≡ b
   pub no_cut : (ms : List Mark) (ps : List Piece) (line : ℕ) → IsCut ms ps → HasOpenComment ms line → ⊥
   pub line : (ms : List Mark) (a b : ℕ) → HasOpenComment ms a → HasOpenComment ms b → a ≡ b
 
@@ -27,10 +28,10 @@ lines_within source h w = omega (arith, w.lines)
 
 one_cut_into : Laws → (source : List ℕ) (a b : List Node) → IsCutInto source a → IsCutInto source b → a ≡ b
 one_cut_into L source a b x y =
-    x.nodes_are ∙ (ap nodes_of (L.cut (marks_of source) x.pieces y.pieces x.cut y.cut) ∙ sym y.nodes_are)
+    x.nodes_are ∙ (ap nodes_of (L.lines (marks_of source) x.lines y.lines x.cut y.cut) ∙ sym y.nodes_are)
 
 open_or_cut : Laws → (source : List ℕ) (line : ℕ) (nodes : List Node) → HasOpenComment (marks_of source) line → IsCutInto source nodes → ⊥
-open_or_cut L source line nodes h x = L.no_cut (marks_of source) x.pieces line x.cut h
+open_or_cut L source line nodes h x = L.no_cut (marks_of source) x.cut.0 line x.cut.1 h
 
 one_fault : Laws → (source : List ℕ) (a b : List Node) (f g : BadSource) → IsCutInto source a → IsCutInto source b
     → first_fault a [] ≡ Some f → first_fault b [] ≡ Some g → f ≡ g

@@ -9,8 +9,9 @@ use Rattle.cb_tokens.specs.Cut.{Piece, StandsFirst}
 use Rattle.cb_tokens.specs.Logical.{split_lines, is_token}
 use Rattle.cb_tree.specs.declared.fault.BuildFault.{BuildFault}
 use Rattle.cb_tree.specs.declared.fault.BuildFault.TheVariants.{Bad, NoMemory}
-use Rattle.cb_tree.specs.Nodes.{Node, nodes_of}
-use Rattle.cb_tree.specs.Reads.{Reads, Tells, node_in_brief, briefs_of}
+use Rattle.cb_tree.specs.Nodes.{Node}
+use Rattle.cb_tree.specs.inner.Reads.{piece_nodes}
+use Rattle.cb_tree.specs.inner.Reads.{Reads, Tells, node_in_brief, briefs_of}
 use Rattle.cb_tree.proofs.Pieces.{passes, Cuts-trans, open_after}
 use Rattle.cb_tree.proofs.Briefs.{in_brief}
 use Rattle.cb_tree.proofs.BriefSteps.{skip_white, skip_comment}
@@ -26,9 +27,9 @@ reads_on ms ns mid ns' rest a b = record {
   pieces = a.pieces ++ b.pieces;
   cut = Cuts-trans ms a.pieces mid b.pieces rest a.cut b.cut;
   nodes_are = λ more h.
-      ap nodes_of (append_assoc a.pieces b.pieces more)
+      ap piece_nodes (append_assoc a.pieces b.pieces more)
       ∙ (a.nodes_are (b.pieces ++ more) (Cuts-trans mid b.pieces rest more [] b.cut h)
-      ∙ (ap (λ x. ns ++ x) (b.nodes_are more h) ∙ sym (append_assoc ns ns' (nodes_of more))));
+      ∙ (ap (λ x. ns ++ x) (b.nodes_are more h) ∙ sym (append_assoc ns ns' (piece_nodes more))));
 }
 
 -- a fault met later is a fault of the whole

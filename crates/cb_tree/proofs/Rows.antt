@@ -16,8 +16,8 @@ use Rattle.cb_tokens.specs.declared.token.TokenKind.TheVariants as token
 use Rattle.cb_tree.specs.declared.node.NodeKind.{NodeKind}
 use Rattle.cb_tree.specs.declared.opening.Hash.{Hash}
 use Rattle.cb_tree.specs.Kinds.{is_hash_text}
-use Rattle.cb_tree.specs.Heads.{hash_text, hash_token, name_of, name_token}
-use Rattle.cb_tree.specs.Reads.{ReadsDirective, DirectiveGoes, DirectiveStands, GoesInRow, IsRow, row_counted}
+use Rattle.cb_tree.specs.inner.Heads.{hash_text, hash_token, name_of, name_token}
+use Rattle.cb_tree.specs.inner.Reads.{ReadsDirective, DirectiveGoes, DirectiveStands, GoesInRow, IsRow, row_counted}
 use Rattle.cb_tree.proofs.Pieces.{some_bytes}
 use Rattle.cb_tree.proofs.Runs.{one_line}
 use Rattle.cb_tree.proofs.Directives.{directive_white, directive_token, directive_ends_line, hash_start, goes_none, goes_on}

@@ -15,8 +15,9 @@ use Rattle.cb_tree.specs.declared.reading.Place.TheVariants.{LineStart, InLine}
 use Rattle.cb_tree.specs.declared.fault.BuildFault.{BuildFault}
 use Rattle.cb_tree.specs.declared.fault.BuildFault.TheVariants.{Bad, NoMemory}
 use Rattle.cb_tree.specs.Kinds.{is_hash_text}
-use Rattle.cb_tree.specs.Nodes.{nodes_of}
-use Rattle.cb_tree.specs.Reads.{Reads, ReadsRun, Run, node_in_brief, briefs_of, run_before, run_from, text_node, Tells}
+use Rattle.cb_tree.specs.inner.Reads.{piece_nodes}
+use Rattle.cb_tree.specs.inner.Reads.{Reads, ReadsRun, Run, node_in_brief, briefs_of, run_before, run_from, Tells}
+use Rattle.cb_tree.specs.Nodes.{text_node}
 use Rattle.cb_tree.proofs.Pieces.{passes, Cuts-trans, cut_of_none, open_after}
 use Rattle.cb_tree.proofs.Briefs.{in_brief}
 use Rattle.cb_tree.proofs.BriefSteps.{skip_white, skip_comment, run_begins, run_goes, run_line_ends, run_line_begins, run_ends}
@@ -41,7 +42,7 @@ run_piece ms place place' counted rest k n h run goes = record {
   cut = Cuts-trans ms run.pieces rest (record { kind = k; marks = take n rest } ∷ []) (drop n rest) run.cut (passes rest k n h);
   counted_are = counted_more counted run.marks (token_marks k (take n rest)) run.counted_are;
   nodes_are = λ more.
-      ap nodes_of (append_assoc run.pieces (record { kind = k; marks = take n rest } ∷ []) more)
+      ap piece_nodes (append_assoc run.pieces (record { kind = k; marks = take n rest } ∷ []) more)
       ∙ (run.nodes_are (record { kind = k; marks = take n rest } ∷ more) ∙ ap (map node_in_brief) (goes run.marks more));
 }
 

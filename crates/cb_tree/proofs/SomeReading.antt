@@ -1,5 +1,5 @@
 -- Every source has a reading.
-use Rattle.std.proofs.Common.{◌≡◌, ℕ, zero, suc, ◌<◌, ◌≤◌, List, [], ◌∷◌, length, slice_get, Option, None, Some, ◌⊎◌, inl, inr, ⊎_elim, refl, sym, subst, arith}
+use Rattle.std.proofs.Common.{◌≡◌, ℕ, zero, suc, ◌<◌, ◌≤◌, List, [], ◌∷◌, length, slice_get, Option, None, Some, ◌⊎◌, inl, inr, ⊎_elim, refl, sym, subst, ap, ◌∙◌, arith}
 use Rattle.std.specs.Option.{option_map}
 use Rattle.std.specs.List.{All}
 use Rattle.std.proofs.lemmas.Bool.{cases_lt}
@@ -12,6 +12,8 @@ use Rattle.cb_tree.specs.declared.fault.BadSource.{BadSource}
 use Rattle.cb_tree.specs.Nodes.{Node, AreCounted, node_line, nodes_of}
 use Rattle.cb_tree.specs.Sections.{first_fault}
 use Rattle.cb_tree.specs.Sound.{Reading, Sound, Unsound, IsRead, IsWithinLimits, IsCutInto, line_count, too_many_bytes, too_many_lines, open_comment, faulty, sound}
+use Rattle.cb_tokens.specs.Logical.{logical_lines}
+use Rattle.cb_tree.proofs.Briefs.{line_nodes}
 use Rattle.cb_tree.proofs.CountedLines.{counted_nodes}
 
 -- marks have a cut or an open comment
@@ -27,7 +29,8 @@ by_fault source nodes (Some f) e w c = (Unsound f, faulty nodes f w c e)
 
 by_cut : (source : List ℕ) → IsWithinLimits source → Ends (marks_of source) → HasReading source
 by_cut source w (inl (ps, c)) =
-    by_fault source (nodes_of ps) (first_fault (nodes_of ps) []) refl w (record { pieces = ps; cut = c; nodes_are = refl })
+    by_fault source (nodes_of (logical_lines ps)) (first_fault (nodes_of (logical_lines ps)) []) refl w
+    (record { lines = logical_lines ps; cut = (ps, c, refl); nodes_are = refl })
 by_cut source w (inr (line, o)) = (Unsound (record { kind = kind.OpenComment; line = line }), open_comment line w o)
 
 pub some_reading : ((ms : List Mark) → Ends ms) → (source : List ℕ) → (r : Reading) × IsRead source r
@@ -41,7 +44,8 @@ some_reading ends source =
 
 -- the nodes of a reading are counted
 cut_counted : (source : List ℕ) (nodes : List Node) → IsWithinLimits source → IsCutInto source nodes → AreCounted nodes
-cut_counted source nodes w c = subst AreCounted (sym c.nodes_are) (counted_nodes source c.pieces w.bytes c.cut)
+cut_counted source nodes w c =
+    subst AreCounted (sym (c.nodes_are ∙ (ap nodes_of c.cut.2 ∙ line_nodes c.cut.0))) (counted_nodes source c.cut.0 w.bytes c.cut.1)
 
 pub reading_counted : (source : List ℕ) (nodes : List Node) → IsRead source (Sound nodes) → AreCounted nodes
 reading_counted source _ (sound nodes w c e) = cut_counted source nodes w c

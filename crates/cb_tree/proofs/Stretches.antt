@@ -14,7 +14,7 @@ use Rattle.cb_tokens.specs.Plain.{is_plain, CutsPlain}
 use Rattle.cb_tree.specs.declared.reading.Place.{Place}
 use Rattle.cb_tree.specs.declared.reading.Place.TheVariants.{LineStart, InLine}
 use Rattle.cb_tree.specs.Kinds.{is_hash_text}
-use Rattle.cb_tree.specs.Reads.{ReadsRun, solid}
+use Rattle.cb_tree.specs.inner.Reads.{ReadsRun, solid}
 use Rattle.cb_tree.proofs.Pieces.{some_bytes}
 use Rattle.cb_tree.proofs.Runs.{run_start, with_lines-append, run_white, run_token, run_any_token}
 

@@ -7,8 +7,9 @@ use Rattle.std.proofs.lemmas.List.{drop_all}
 use Rattle.cb_tree.specs.Nodes.{Node}
 use Rattle.cb_tree.specs.declared.node.NodeKind.{NodeKind}
 use Rattle.cb_tree.specs.declared.node.NodeKind.TheVariants.{Text, If, Ifdef, Ifndef, Elif, Else, Endif, Define, Undef, Include, Once, Error, Other}
-use Rattle.cb_tree.specs.Groups.{next_turn, ends_from, kinds_of}
-use Rattle.cb_tree.specs.Trees.{front_of, end_by, entry_of, turns_with}
+use Rattle.cb_tree.specs.Groups.{next_turn, kinds_of}
+use Rattle.cb_tree.specs.inner.Trees.{ends_from}
+use Rattle.cb_tree.specs.inner.Trees.{front_of, end_by, entry_of, turns_with}
 
 -- the element at a depth
 abbrev pub at : List ℕ → ℕ → Option ℕ

@@ -14,12 +14,7 @@ is_hash_text text = bytes_eq text (codes "#") || bytes_eq text (codes "%:")
 abbrev pub is_hash : Token → Bool
 is_hash t = is_hash_text t.text
 
--- a line is a directive line where its first token is # (6.10 paragraph 2)
-abbrev pub is_directive : List Token → Bool
-is_directive [] = false
-is_directive (t ∷ ts) = is_hash t
-
--- an identifier of this spelling stands first
+-- an identifier of this spelling stands first (own)
 abbrev pub begins_with_name : List ℕ → List Token → Bool
 begins_with_name name [] = false
 begins_with_name name (t ∷ ts) = if is_identifier_kind t.kind then bytes_eq t.text name else false

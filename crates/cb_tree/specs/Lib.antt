@@ -1,12 +1,10 @@
 pub mod Faults
 pub mod Kinds
 pub mod Nodes
-pub mod Heads
+pub mod Roles
 pub mod Sections
 pub mod Sound
-pub mod Reads
-pub mod Trees
 pub mod Skeleton
 pub mod Groups
 pub mod Nesting
-pub mod Frames
+pub mod inner

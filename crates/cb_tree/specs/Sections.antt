@@ -1,7 +1,9 @@
 -- If sections, by one pass over the nodes with the sections that are open (6.10.1).
-use Rattle.std.specs.Prelude.{ℕ, ◌==◌, true, false, if◌then◌else◌, List, [], ◌∷◌, length, Option, Some, None, Result, Ok, Err}
+use Rattle.std.specs.Prelude.{ℕ, ◌==◌, Bool, true, false, if◌then◌else◌, List, [], ◌∷◌, length, Option, Some, None, Result, Ok, Err}
 use Rattle.cb_tree.specs.declared.node.NodeKind.{NodeKind}
-use Rattle.cb_tree.specs.declared.node.NodeKind.TheVariants.{Text, If, Ifdef, Ifndef, Elif, Else, Endif, Define, Undef, Include, Once, Error, Other}
+use Rattle.cb_tree.specs.declared.role.Role.{Role}
+use Rattle.cb_tree.specs.declared.role.Role.TheVariants as role
+use Rattle.cb_tree.specs.Roles.{role_of, is_last}
 use Rattle.cb_tree.specs.declared.fault.SourceKind.TheVariants as kind
 use Rattle.cb_tree.specs.declared.fault.BadSource.{BadSource}
 use Rattle.cb_tree.specs.declared.sections.OpenSection.{OpenSection}
@@ -30,33 +32,29 @@ abbrev pub closed : ℕ → List OpenSection → Result (List OpenSection) BadSo
 closed line [] = Err (record { kind = kind.StrayEndif; line = line })
 closed line (s ∷ ss) = Ok ss
 
--- the open sections after a node of the kind, or its fault
+-- the open sections after a node in this role, which may begin the last group of its section, or its fault (6.10.1)
+abbrev pub sections_by : Role → Bool → ℕ → List OpenSection → Result (List OpenSection) BadSource
+sections_by role.Within last line sections = Ok sections
+sections_by role.Opens last line sections = opened line sections
+sections_by role.Turns false line sections = continued line sections
+sections_by role.Turns true line sections = turned line sections
+sections_by role.Closes last line sections = closed line sections
+
+-- the open sections after a node of the kind, or its fault (6.10.1)
 abbrev pub sections_after : NodeKind → ℕ → List OpenSection → Result (List OpenSection) BadSource
-sections_after Text line sections = Ok sections
-sections_after If line sections = opened line sections
-sections_after Ifdef line sections = opened line sections
-sections_after Ifndef line sections = opened line sections
-sections_after Elif line sections = continued line sections
-sections_after Else line sections = turned line sections
-sections_after Endif line sections = closed line sections
-sections_after Define line sections = Ok sections
-sections_after Undef line sections = Ok sections
-sections_after Include line sections = Ok sections
-sections_after Once line sections = Ok sections
-sections_after Error line sections = Ok sections
-sections_after Other line sections = Ok sections
+sections_after kind = sections_by (role_of kind) (is_last kind)
 
 -- the fault at the end: a section is open, the last opened of those still open (6.10 paragraph 1)
 abbrev pub fault_at_end : List OpenSection → Option BadSource
 fault_at_end [] = None
 fault_at_end (s ∷ ss) = Some (record { kind = kind.OpenIf; line = s.line })
 
--- a fault, or what comes of the open sections
+-- a fault, or what comes of the open sections (own)
 abbrev pub fault_or : Result (List OpenSection) BadSource → (List OpenSection → Option BadSource) → Option BadSource
 fault_or (Err fault) behind = Some fault
 fault_or (Ok sections) behind = behind sections
 
--- the first fault of nodes, where these sections are open before them
+-- the first fault of nodes, where these sections are open before them (own)
 abbrev pub first_fault : List Node → List OpenSection → Option BadSource
 first_fault [] sections = fault_at_end sections
 first_fault (n ∷ ns) sections = fault_or (sections_after n.kind (node_line n) sections) (first_fault ns)

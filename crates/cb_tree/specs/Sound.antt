@@ -1,13 +1,14 @@
 -- What a source is read as: its nodes, or its first fault.
 use Rattle.std.specs.Prelude.{◌≡◌, ℕ, ◌+◌, ◌<◌, ◌≤◌, Bool, false, not, if◌then◌else◌, List, [], ◌∷◌, length, count_by, None, Some}
 use Rattle.cb_lines.specs.Marks.{marks_of, is_line_feed}
-use Rattle.cb_tokens.specs.Cut.{Piece, IsCut, HasOpenComment}
+use Rattle.cb_tokens.specs.Cut.{HasOpenComment}
+use Rattle.cb_tokens.specs.Logical.{Line, AreLinesOf}
 use Rattle.cb_tree.specs.declared.fault.SourceKind.TheVariants as kind
 use Rattle.cb_tree.specs.declared.fault.BadSource.{BadSource}
 use Rattle.cb_tree.specs.Nodes.{Node, nodes_of}
 use Rattle.cb_tree.specs.Sections.{first_fault}
 
--- whether a last line without LF stands at the end
+-- whether a last line without LF stands at the end (own)
 abbrev pub ends_open : List ℕ → Bool
 ends_open [] = false
 ends_open (b ∷ []) = not (is_line_feed b)
@@ -17,7 +18,7 @@ ends_open (b ∷ c ∷ cs) = ends_open (c ∷ cs)
 abbrev pub line_count : List ℕ → ℕ
 line_count source = count_by is_line_feed source + (if ends_open source then 1 else 0)
 
--- what a source is read as
+-- what a source is read as: its nodes, or its first fault (own)
 pub data Reading : Type 0 where
   Sound : List Node → Reading
   Unsound : BadSource → Reading
@@ -27,11 +28,11 @@ pub record IsWithinLimits (source : List ℕ) : Type 0 where
   pub bytes : length source ≤ 4194304
   pub lines : line_count source ≤ 200000
 
--- the source is cut, and then the first fault of its nodes decides, where there is one (6.10)
+-- these are the nodes of the source's logical lines (6.10)
 pub record IsCutInto (source : List ℕ) (nodes : List Node) : Type 0 where
-  pub pieces : List Piece
-  pub cut : IsCut (marks_of source) pieces
-  pub nodes_are : nodes ≡ nodes_of pieces
+  pub lines : List Line
+  pub cut : AreLinesOf (marks_of source) lines
+  pub nodes_are : nodes ≡ nodes_of lines
 
 -- what a source is read as: first its size decides, then a comment without an end, then the first fault of its nodes (own)
 pub data IsRead (source : List ℕ) : Reading → Type 0 where

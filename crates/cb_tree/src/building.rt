@@ -3,7 +3,7 @@ ghost use Rattle.std.specs.Prelude.{List, ℕ, ◌≡◌, ◌⊎◌, ◌≤◌, 
 ghost use Rattle.cb_tree.specs.Sound.{IsRead, Reading, Sound, Unsound};
 ghost use Rattle.cb_tree.specs.Nodes.{Node, AreCounted};
 ghost use Rattle.cb_tree.specs.Sections.{first_fault};
-ghost use Rattle.cb_tree.specs.Reads.{IsReadAs};
+ghost use Rattle.cb_tree.specs.inner.Reads.{IsReadAs};
 ghost use Rattle.cb_tree.specs.declared.fault.BadSource.{BadSource as Fault};
 
 use crate::fault::BuildFault;

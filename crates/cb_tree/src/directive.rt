@@ -6,8 +6,8 @@ ghost use Rattle.cb_tokens.specs.Cut.{StandsFirst};
 ghost use Rattle.cb_tokens.specs.declared.first.First.{First};
 ghost use Rattle.cb_tree.specs.Kinds.{is_hash_text, kind_behind_hash};
 ghost use Rattle.cb_tokens.specs.declared.token.Token.{Token};
-ghost use Rattle.cb_tree.specs.Heads.{Adds, IsNamed, IsUnnamed, hash_token, name_of, name_token, node_with};
-ghost use Rattle.cb_tree.specs.Reads.{Reads, ReadsDirective, DirectiveGoes, HeadReads, HeadTells, IsRow, Tells};
+ghost use Rattle.cb_tree.specs.inner.Heads.{Adds, IsNamed, IsUnnamed, hash_token, name_of, name_token, node_with};
+ghost use Rattle.cb_tree.specs.inner.Reads.{Reads, ReadsDirective, DirectiveGoes, HeadReads, HeadTells, IsRow, Tells};
 
 use crate::fault::BuildFault;
 use crate::kind::kind_behind_hash;

@@ -1,7 +1,8 @@
 //! Where the groups of if sections end.
 ghost use Rattle.std.specs.Prelude.{◌≡◌, ◌≤◌, length, map, reverse, IfOk, OnOk};
-ghost use Rattle.cb_tree.specs.Groups.{kinds_of, ends_from};
-ghost use Rattle.cb_tree.specs.Trees.{end_by, entry_of, turns_with};
+ghost use Rattle.cb_tree.specs.Groups.{kinds_of};
+ghost use Rattle.cb_tree.specs.inner.Trees.{ends_from};
+ghost use Rattle.cb_tree.specs.inner.Trees.{end_by, entry_of, turns_with};
 
 use crate::node::NodeKind;
 use crate::nodes::Nodes;

@@ -1,7 +1,8 @@
 //! The kind of a directive line, and what stands behind its name.
 ghost use Rattle.std.specs.Prelude.{◌≡◌, List, length, codes, IfSome, IfNone};
 ghost use Rattle.cb_tokens.specs.declared.token.Token.{Token};
-ghost use Rattle.cb_tree.specs.Heads.{has_name, is_line, unnamed_kind, IsNamed};
+ghost use Rattle.cb_tree.specs.inner.Heads.{has_name, unnamed_kind, IsNamed};
+ghost use Rattle.cb_tree.specs.Roles.{is_line};
 ghost use Rattle.cb_tree.specs.Kinds.{is_hash_text, begins_with_name, kind_of_name, kind_behind_hash, rest_behind_hash};
 
 use crate::node::NodeKind;

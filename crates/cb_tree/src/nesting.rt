@@ -1,7 +1,8 @@
 //! From the nodes of a sound source to its parts.
 ghost use Rattle.std.specs.Prelude.{◌≡◌, ◌<◌, ◌≤◌, ◌∷◌, ◌++◌, [], length, take, drop, None, IfOk, OnOk};
-ghost use Rattle.cb_tree.specs.Nesting.{places_of, places_from, section_places, inner_places};
-ghost use Rattle.cb_tree.specs.Frames.{Puts, group_ended, AreStacked, Places, MayStand, IsPlaced};
+ghost use Rattle.cb_tree.specs.Nesting.{places_of, places_from};
+ghost use Rattle.cb_tree.specs.inner.Frames.{section_places, inner_places};
+ghost use Rattle.cb_tree.specs.inner.Frames.{Puts, group_ended, AreStacked, Places, MayStand, IsPlaced};
 ghost use Rattle.cb_tree.specs.Groups.{kinds_of};
 ghost use Rattle.cb_tree.specs.Sections.{first_fault};
 

@@ -1,7 +1,7 @@
 //! The nodes of a source. The tokens that are kept of their directives lie in one list.
 ghost use Rattle.std.specs.Prelude.{◌≡◌, ◌-◌, ◌<◌, ◌≤◌, ◌↔◌, length, take, drop, slice_get, Some, IsTrue};
 ghost use Rattle.std.specs.Option.{option_map};
-ghost use Rattle.cb_tree.specs.Heads.{hash_token, kept_up_to, lead_name, node_of, bone_with};
+ghost use Rattle.cb_tree.specs.inner.Heads.{hash_token, kept_up_to, lead_name, node_of, bone_with};
 ghost use Rattle.cb_tree.specs.Nodes.{node_rest, total_lines};
 ghost use Rattle.cb_tree.specs.Skeleton.{bone_of};
 
@@ -44,7 +44,7 @@ impl Model for Nodes {
 
     ghost Value = { List Node };
 
-    ghost use Rattle.cb_tree.specs.Heads.{nodes_in, AreWithin};
+    ghost use Rattle.cb_tree.specs.inner.Heads.{nodes_in, AreWithin};
     ghost use Rattle.cb_tree.specs.Nodes.{total_lines};
 
     ghost view = { λ n. nodes_in n.tokens.items 0 n.heads.items };

@@ -8,8 +8,8 @@ ghost use Rattle.cb_tokens.specs.Cut.{StandsFirst};
 ghost use Rattle.cb_tokens.specs.declared.first.First.{First};
 ghost use Rattle.cb_tokens.specs.declared.token.Token.{Token};
 ghost use Rattle.cb_tree.specs.Kinds.{is_hash_text, kind_behind_hash};
-ghost use Rattle.cb_tree.specs.Heads.{hash_text, name_of, name_token, IsNamed, IsUnnamed};
-ghost use Rattle.cb_tree.specs.Reads.{GoesInRow, IsRow, ReadsDirective, StandsBehind, Tells};
+ghost use Rattle.cb_tree.specs.inner.Heads.{hash_text, name_of, name_token, IsNamed, IsUnnamed};
+ghost use Rattle.cb_tree.specs.inner.Reads.{GoesInRow, IsRow, ReadsDirective, StandsBehind, Tells};
 
 use crate::fault::BuildFault;
 use crate::kind::named_kind;

@@ -4,7 +4,7 @@ ghost use Rattle.cb_lines.specs.Marks.{bytes_of};
 ghost use Rattle.cb_lines.specs.Lines.{with_lines};
 ghost use Rattle.cb_tokens.specs.Cut.{StandsFirst};
 ghost use Rattle.cb_tokens.specs.Logical.{is_token};
-ghost use Rattle.cb_tree.specs.Reads.{Reads, Tells, StandsNext, StartsNext};
+ghost use Rattle.cb_tree.specs.inner.Reads.{Reads, Tells, StandsNext, StartsNext};
 
 use crate::fault::{BadSource, BuildFault, SourceKind};
 use cb_lines::{Lines, Walk};

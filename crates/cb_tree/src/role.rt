@@ -1,6 +1,6 @@
 //! What a node is to the if sections.
 ghost use Rattle.std.specs.Prelude.{◌≡◌};
-ghost use Rattle.cb_tree.specs.Nesting.{role_of};
+ghost use Rattle.cb_tree.specs.Roles.{role_of};
 
 use crate::node::NodeKind;
 

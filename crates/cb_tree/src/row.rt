@@ -4,7 +4,7 @@ ghost use Rattle.cb_lines.specs.Marks.{bytes_of, is_line_feed};
 ghost use Rattle.cb_tokens.specs.Cut.{StandsFirst};
 ghost use Rattle.cb_tokens.specs.declared.first.First.{First};
 ghost use Rattle.cb_tokens.specs.declared.token.Token.{Token};
-ghost use Rattle.cb_tree.specs.Reads.{DirectiveGoes, GoesInRow, IsInRow, row_counted};
+ghost use Rattle.cb_tree.specs.inner.Reads.{DirectiveGoes, GoesInRow, IsInRow, row_counted};
 
 use crate::reading::Start;
 use cb_lines::{Lines, Walk, one_line};

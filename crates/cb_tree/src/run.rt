@@ -6,7 +6,8 @@ ghost use Rattle.cb_lines.specs.Marks.{bytes_of};
 ghost use Rattle.cb_tokens.specs.Cut.{StandsFirst};
 ghost use Rattle.cb_tokens.specs.declared.first.First.{First};
 ghost use Rattle.cb_tree.specs.Kinds.{is_hash_text};
-ghost use Rattle.cb_tree.specs.Reads.{Reads, ReadsRun, RunGoes, Tells, text_node};
+ghost use Rattle.cb_tree.specs.inner.Reads.{Reads, ReadsRun, RunGoes, Tells};
+ghost use Rattle.cb_tree.specs.Nodes.{text_node};
 
 use crate::fault::BuildFault;
 use crate::kind::is_hash_text;

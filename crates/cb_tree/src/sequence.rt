@@ -1,6 +1,6 @@
 //! The nodes of a source in order, with the first fault among them.
 ghost use Rattle.std.specs.Prelude.{◌≡◌, ◌+◌, ◌^◌, ◌<◌, ◌≤◌, false, length, IfOk, IfErr, OnOk};
-ghost use Rattle.cb_tree.specs.Reads.{Tells, ReadsNode, ReadsOut, Refuses, AreSound};
+ghost use Rattle.cb_tree.specs.inner.Reads.{Tells, ReadsNode, ReadsOut, Refuses, AreSound};
 
 use crate::directive::read_directive;
 use crate::fault::BuildFault;

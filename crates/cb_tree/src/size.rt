@@ -2,7 +2,7 @@
 ghost use Rattle.std.specs.Prelude.{◌≡◌, ◌+◌, ◌≤◌, ◌<◌, length, count_by, MatchResult};
 ghost use Rattle.cb_lines.specs.Marks.{is_line_feed};
 ghost use Rattle.cb_tree.specs.Sound.{IsWithinLimits, ends_open, line_count};
-ghost use Rattle.cb_tree.specs.Reads.{IsReadAs};
+ghost use Rattle.cb_tree.specs.inner.Reads.{IsReadAs};
 
 use crate::fault::{BadSource, BuildFault, SourceKind};
 use cb_paths::{SOURCE_BYTE_LIMIT, SOURCE_LINE_LIMIT};

@@ -4,7 +4,7 @@ ghost use Rattle.cb_lines.specs.declared.mark.Mark.{Mark};
 ghost use Rattle.cb_lines.specs.Marks.{bytes_of, is_line_feed};
 ghost use Rattle.cb_tokens.specs.Cut.{StandsFirst};
 ghost use Rattle.cb_tokens.specs.declared.first.First.{First};
-ghost use Rattle.cb_tree.specs.Reads.{Reads, ReadsRun, Tells};
+ghost use Rattle.cb_tree.specs.inner.Reads.{Reads, ReadsRun, Tells};
 
 use crate::fault::BuildFault;
 use crate::reading::Place;

@@ -4,7 +4,8 @@ ghost use Rattle.std.specs.Option.{option_map};
 ghost use Rattle.std.specs.List.{flat_map};
 ghost use Rattle.cb_lines.specs.Lines.{AreMaximal, span_lines};
 ghost use Rattle.cb_tree.specs.Nodes.{AreCounted, node_line, node_rest, first_of, total_lines};
-ghost use Rattle.cb_tree.specs.Groups.{kinds_of, opens_group, group_end_of};
+ghost use Rattle.cb_tree.specs.Groups.{kinds_of, group_end_of};
+ghost use Rattle.cb_tree.specs.Roles.{opens_group};
 ghost use Rattle.cb_tree.specs.Nesting.{places_of, places_from};
 ghost use Rattle.cb_tree.specs.Sections.{first_fault};
 ghost use Rattle.cb_tree.specs.Skeleton.{skeleton};
@@ -31,7 +32,7 @@ impl Model for Tree {
 
     ghost Value = { List Node };
 
-    ghost use Rattle.cb_tree.specs.Trees.{IsKept};
+    ghost use Rattle.cb_tree.specs.inner.Trees.{IsKept};
 
     ghost view = { λ t. t.nodes };
 

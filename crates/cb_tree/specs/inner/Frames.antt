@@ -1,12 +1,21 @@
--- The nodes of a source up to a place. No public clause names these words.
-use Rattle.std.specs.Prelude.{◌≡◌, ℕ, ◌+◌, ◌-◌, ◌<◌, ◌≤◌, List, [], ◌∷◌, ◌++◌, length, take, drop, reverse}
+-- The nodes of a source up to a place.
+use Rattle.std.specs.Prelude.{◌≡◌, ℕ, ◌+◌, ◌-◌, ◌<◌, ◌≤◌, List, [], ◌∷◌, ◌++◌, length, take, drop, map, reverse}
 use Rattle.cb_tree.specs.declared.role.Role.{Role}
 use Rattle.cb_tree.specs.declared.role.Role.TheVariants as role
 use Rattle.cb_tree.specs.declared.part.Part.{Part}
 use Rattle.cb_tree.specs.declared.part.Group.{Group}
 use Rattle.cb_tree.specs.declared.nesting.Frame.{Frame}
 use Rattle.cb_tree.specs.declared.nesting.Nesting.{Nesting}
-use Rattle.cb_tree.specs.Nesting.{Placed, GroupPlaces, group_places, inner_places, places_of}
+use Rattle.cb_tree.specs.declared.part.Part.TheFolds.{fold-Group}
+use Rattle.cb_tree.specs.Nesting.{Placed, GroupPlaces, group_places, places_of, part_step, group_step, section_step}
+
+-- the nodes of groups
+abbrev pub inner_places : List Group → List GroupPlaces
+inner_places groups = map (fold-Group (List Placed) GroupPlaces (List Placed) part_step group_step section_step) groups
+
+-- the nodes of a section
+abbrev pub section_places : List Group → ℕ → List Placed
+section_places groups end = group_places (inner_places groups) ++ record { role = role.Closes; node = end } ∷ []
 
 -- the nodes of a section's groups that have ended, and then the directive that begins the next
 abbrev pub turned_places : List GroupPlaces → ℕ → List Placed

@@ -1,4 +1,4 @@
--- How nodes are kept. No public clause names these words.
+-- How nodes are kept.
 use Rattle.std.specs.Prelude.{◌≡◌, ℕ, ◌-◌, ◌≤◌, Bool, true, false, if◌then◌else◌, List, [], ◌∷◌, ◌++◌, length, take, drop, codes}
 use Rattle.cb_tokens.specs.declared.token.Token.{Token}
 use Rattle.cb_tokens.specs.declared.token.TokenKind.TheVariants as token
@@ -9,44 +9,19 @@ use Rattle.cb_tree.specs.declared.opening.Hash.TheVariants.{Sign, Digraph}
 use Rattle.cb_tree.specs.declared.nodes.Head.{Head}
 use Rattle.std.specs.Str.{bytes_eq}
 use Rattle.cb_tree.specs.Kinds.{kind_of_name, begins_with_name}
+use Rattle.cb_tree.specs.Roles.{is_line}
 use Rattle.cb_tree.specs.Nodes.{Node}
 use Rattle.cb_tree.specs.Skeleton.{Bone, bone_of}
 
 -- a directive of the kind is known by its name alone
 abbrev pub has_name : NodeKind → Bool
 has_name Text = false
-has_name If = true
-has_name Ifdef = true
-has_name Ifndef = true
-has_name Elif = true
-has_name Else = true
-has_name Endif = true
-has_name Define = true
-has_name Undef = true
-has_name Include = true
 has_name Once = false
-has_name Error = true
 has_name Other = false
-
--- a node of the kind is a directive line
-abbrev pub is_line : NodeKind → Bool
-is_line Text = false
-is_line If = true
-is_line Ifdef = true
-is_line Ifndef = true
-is_line Elif = true
-is_line Else = true
-is_line Endif = true
-is_line Define = true
-is_line Undef = true
-is_line Include = true
-is_line Once = true
-is_line Error = true
-is_line Other = true
+has_name _ = true
 
 -- the name of a directive of the kind
 abbrev pub name_of : NodeKind → List ℕ
-name_of Text = []
 name_of If = codes "if"
 name_of Ifdef = codes "ifdef"
 name_of Ifndef = codes "ifndef"
@@ -56,9 +31,8 @@ name_of Endif = codes "endif"
 name_of Define = codes "define"
 name_of Undef = codes "undef"
 name_of Include = codes "include"
-name_of Once = []
 name_of Error = codes "error"
-name_of Other = []
+name_of _ = []
 
 -- the bytes are the name of the kind, whatever stands behind them
 pub record IsNamed (name : List ℕ) (kind : NodeKind) : Type 0 where

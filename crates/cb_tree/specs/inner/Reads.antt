@@ -1,4 +1,4 @@
--- What the private steps of reading a source's nodes say. No public clause names these words.
+-- What the private steps of reading a source's nodes say.
 use Rattle.std.specs.Prelude.{◌≡◌, ◌⊎◌, ℕ, ◌+◌, ◌<◌, ◌≤◌, Bool, false, nat_lt, slice_index, if◌then◌else◌, List, [], ◌∷◌, ◌++◌, length, take, drop, map, Option, Some, None}
 use Rattle.std.specs.List.{flat_map}
 use Rattle.cb_lines.specs.declared.mark.Mark.{Mark}
@@ -22,16 +22,10 @@ use Rattle.cb_tree.specs.declared.opening.Second.{Second}
 use Rattle.cb_tree.specs.declared.row.InRow.{InRow}
 use Rattle.cb_tree.specs.declared.row.InRow.TheVariants as row
 use Rattle.cb_tree.specs.Kinds.{is_hash, kind_of}
-use Rattle.cb_tree.specs.Nodes.{Node, nodes_of, total_lines}
-use Rattle.cb_tree.specs.Heads.{Adds, node_with}
+use Rattle.cb_tree.specs.Nodes.{Node, total_lines, text_node, directive_node}
+use Rattle.cb_tree.specs.inner.Heads.{Adds, node_with}
 use Rattle.cb_tree.specs.Sections.{first_fault}
 use Rattle.cb_tree.specs.Sound.{IsRead, Unsound}
-
--- pieces lead from some marks to others, and their nodes come before those of whatever cut follows
-pub record Reads (ms : List Mark) (nodes : List Node) (rest : List Mark) : Type 0 where
-  pub pieces : List Piece
-  pub cut : Cuts ms pieces rest
-  pub nodes_are : (more : List Piece) → IsCut rest more → nodes_of (pieces ++ more) ≡ nodes ++ nodes_of more
 
 -- a fault that is met while pieces are read: an open comment
 abbrev pub Tells : List Mark → BuildFault → Type 0
@@ -68,6 +62,16 @@ abbrev pub briefs_of : List (List Piece) → List Brief
 briefs_of [] = []
 briefs_of (part ∷ parts) = line_before (line_tokens part) (solid part) (briefs_of parts)
 
+-- the nodes of pieces
+abbrev pub piece_nodes : List Piece → List Node
+piece_nodes ps = map node_in_brief (briefs_of (split_lines ps))
+
+-- pieces lead from some marks to others, and their nodes come before those of whatever cut follows
+pub record Reads (ms : List Mark) (nodes : List Node) (rest : List Mark) : Type 0 where
+  pub pieces : List Piece
+  pub cut : Cuts ms pieces rest
+  pub nodes_are : (more : List Piece) → IsCut rest more → piece_nodes (pieces ++ more) ≡ nodes ++ piece_nodes more
+
 -- a run whose last line goes on with the first of these parts
 abbrev pub run_on : List Mark → List (List Piece) → List Brief
 run_on ms [] = Run ms ∷ []
@@ -89,7 +93,7 @@ pub record ReadsRun (ms : List Mark) (place : Place) (counted : List ℕ) (rest 
   pub marks : List Mark
   pub cut : Cuts ms pieces rest
   pub counted_are : counted ≡ lines_of marks
-  pub nodes_are : (more : List Piece) → nodes_of (pieces ++ more) ≡ map node_in_brief (run_from place marks (split_lines more))
+  pub nodes_are : (more : List Piece) → piece_nodes (pieces ++ more) ≡ map node_in_brief (run_from place marks (split_lines more))
 
 -- a directive is read up to the rest, and its tokens and counted lines are these so far
 pub record ReadsDirective (ms : List Mark) (tokens : List Token) (spaced : Bool) (counted : List ℕ) (rest : List Mark) : Type 0 where
@@ -98,7 +102,7 @@ pub record ReadsDirective (ms : List Mark) (tokens : List Token) (spaced : Bool)
   pub cut : Cuts ms pieces rest
   pub counted_are : counted ≡ lines_of marks
   pub nodes_are : (more : List Piece)
-      → nodes_of (pieces ++ more) ≡ map node_in_brief (directive_on tokens spaced marks (split_lines more))
+      → piece_nodes (pieces ++ more) ≡ map node_in_brief (directive_on tokens spaced marks (split_lines more))
 
 -- the piece that stands next, or none at the end
 abbrev pub StandsNext : List Mark → Option Ahead → Type 0
@@ -109,14 +113,6 @@ StandsNext ms (Some next) = StandsFirst (bytes_of ms) (first.Piece next.kind nex
 abbrev pub StartsNext : List Mark → Option Start → Type 0
 StartsNext ms None = ms ≡ []
 StartsNext ms (Some start) = StandsFirst (bytes_of ms) (first.Piece (piece.Token start.kind) start.len)
-
--- the node of a run of text with these counted lines
-abbrev pub text_node : List ℕ → Node
-text_node counted = record { kind = Text; tokens = []; counted = counted }
-
--- the node of a directive with these tokens and counted lines
-abbrev pub directive_node : List Token → List ℕ → Node
-directive_node tokens counted = record { kind = kind_of tokens; tokens = tokens; counted = counted }
 
 -- a run goes on, or has ended and is a node
 abbrev pub RunGoes : List Mark → Option Place → List ℕ → List Mark → Type 0

@@ -1,13 +1,20 @@
--- What a tree keeps. No public clause names these words.
-use Rattle.std.specs.Prelude.{◌≡◌, ℕ, ◌≤◌, if◌then◌else◌, List, [], ◌∷◌, length, drop, map, Option, Some, None}
+-- What a tree keeps.
+use Rattle.std.specs.Prelude.{◌≡◌, ℕ, ◌+◌, ◌≤◌, if◌then◌else◌, List, [], ◌∷◌, length, drop, map, Option, Some, None}
 use Rattle.std.specs.Option.{unwrap_or}
 use Rattle.cb_tree.specs.declared.node.NodeKind.{NodeKind}
-use Rattle.cb_tree.specs.declared.node.NodeKind.TheVariants.{Text, If, Ifdef, Ifndef, Elif, Else, Endif, Define, Undef, Include, Once, Error, Other}
+use Rattle.cb_tree.specs.declared.role.Role.{Role}
+use Rattle.cb_tree.specs.declared.role.Role.TheVariants as role
 use Rattle.cb_tree.specs.declared.part.Part.{Part}
 use Rattle.cb_tree.specs.Nesting.{places_of, places_from}
-use Rattle.cb_tree.specs.Groups.{opens_group, kinds_of, ends_from}
+use Rattle.cb_tree.specs.Groups.{kinds_of, next_turn}
+use Rattle.cb_tree.specs.Roles.{role_of, opens_group}
 use Rattle.cb_tree.specs.Nodes.{Node, AreCounted}
 use Rattle.cb_tree.specs.Sections.{first_fault}
+
+-- the ends of the groups that nodes of these kinds begin, which are numbered from here on
+abbrev pub ends_from : ℕ → List NodeKind → List (Option ℕ)
+ends_from node [] = []
+ends_from node (kind ∷ kinds) = (if opens_group kind then next_turn kinds (node + 1) 0 else None) ∷ ends_from (node + 1) kinds
 
 -- an entry of the table of ends: the node that ends the group, 0 where none begins, since nodes are numbered from 1
 abbrev pub entry_of : Option ℕ → ℕ
@@ -30,18 +37,13 @@ front_of (x ∷ xs) = Some x
 abbrev pub end_by : NodeKind → List ℕ → Option ℕ
 end_by kind turns = if opens_group kind then front_of turns else None
 
--- the next turns of the open sections from a node of this kind on
+-- the next turns of the open sections from a node in this role on
+abbrev pub turns_by : Role → ℕ → List ℕ → List ℕ
+turns_by role.Within node turns = turns
+turns_by role.Opens node turns = drop 1 turns
+turns_by role.Turns node turns = node ∷ drop 1 turns
+turns_by role.Closes node turns = node ∷ turns
+
+-- the same from a node of this kind on
 abbrev pub turns_with : NodeKind → ℕ → List ℕ → List ℕ
-turns_with Text node turns = turns
-turns_with If node turns = drop 1 turns
-turns_with Ifdef node turns = drop 1 turns
-turns_with Ifndef node turns = drop 1 turns
-turns_with Elif node turns = node ∷ drop 1 turns
-turns_with Else node turns = node ∷ drop 1 turns
-turns_with Endif node turns = node ∷ turns
-turns_with Define node turns = turns
-turns_with Undef node turns = turns
-turns_with Include node turns = turns
-turns_with Once node turns = turns
-turns_with Error node turns = turns
-turns_with Other node turns = turns
+turns_with kind = turns_by (role_of kind)

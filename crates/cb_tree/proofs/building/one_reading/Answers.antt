@@ -3,4 +3,4 @@ use Rattle.cb_tree.proofs.building.one_reading.Goals as goal
 
 pub returns : goal.returns
 returns c =
-    one_reading (record { cut = c.one_cut.ensures.cut; no_cut = c.one_cut.ensures.no_cut; line = c.one_cut.ensures.line })
+    one_reading (record { lines = c.one_cut.ensures.lines; no_cut = c.one_cut.ensures.no_cut; line = c.one_cut.ensures.line })

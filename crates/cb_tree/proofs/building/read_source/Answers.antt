@@ -2,7 +2,7 @@ use Rattle.std.proofs.Common.{◌≡◌, List, length, ap, ◌∙◌, subst, ari
 use Rattle.std.proofs.lemmas.Result.{err_from_is_err_and}
 use Rattle.cb_lines.specs.declared.mark.Mark.{Mark}
 use Rattle.cb_lines.specs.Marks.{marks_of}
-use Rattle.cb_tree.specs.Reads.{AreSound, Refuses}
+use Rattle.cb_tree.specs.inner.Reads.{AreSound, Refuses}
 use Rattle.cb_tree.proofs.Built.{read_sound, read_as, few_marks}
 use Rattle.cb_tree.proofs.building.read_source.Goals as goal
 

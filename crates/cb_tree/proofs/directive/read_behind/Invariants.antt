@@ -1,5 +1,5 @@
 use Rattle.std.proofs.Common.{◌+◌, ◌≤◌, Some, length}
-use Rattle.cb_tree.specs.Reads.{DirectiveGoes}
+use Rattle.cb_tree.specs.inner.Reads.{DirectiveGoes}
 use Rattle.cb_tree.proofs.directive.read_behind.Given as goal
 
 abbrev pub invariant-pieces : goal.invariant-pieces

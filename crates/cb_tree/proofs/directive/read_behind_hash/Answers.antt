@@ -1,7 +1,7 @@
 use Rattle.std.proofs.Common.{[], ◌∷◌, refl, sym, ◌∙◌}
 use Rattle.std.proofs.lemmas.List.{append-nil}
 use Rattle.std.proofs.lemmas.Result.{err_from_is_err_and}
-use Rattle.cb_tree.specs.Heads.{hash_token}
+use Rattle.cb_tree.specs.inner.Heads.{hash_token}
 use Rattle.cb_tree.proofs.directive.read_behind_hash.Goals as goal
 
 pub returns-in_err-second-clause-tells : goal.returns-in_err-second-clause-tells

@@ -2,7 +2,7 @@ use Rattle.std.proofs.Common.{◌≡◌, ◌+◌, ℕ, List, None, ◌++◌, dro
 use Rattle.std.proofs.lemmas.Result.{err_from_is_err_and}
 use Rattle.cb_lines.specs.declared.mark.Mark.{Mark}
 use Rattle.cb_lines.specs.Marks.{bytes_of}
-use Rattle.cb_tree.specs.Reads.{DirectiveGoes}
+use Rattle.cb_tree.specs.inner.Reads.{DirectiveGoes}
 use Rattle.cb_tree.proofs.Directives.{goes_on}
 use Rattle.cb_tree.proofs.Rows.{behind_lead, behind_both, bytes_behind, plain_lead, row_ends}
 use Rattle.cb_tree.proofs.directive.read_behind_lead.Goals as goal

@@ -5,7 +5,7 @@ use Rattle.cb_tree.proofs.Pieces.{shorter, within}
 use Rattle.cb_tree.proofs.Runs.{start_few}
 use Rattle.cb_tree.proofs.Directives.{hash_start}
 use Rattle.cb_tree.proofs.Rows.{lead_reads}
-use Rattle.cb_tree.specs.Heads.{name_token}
+use Rattle.cb_tree.specs.inner.Heads.{name_token}
 use Rattle.cb_lines.specs.Marks.{first_line}
 use Rattle.cb_tree.proofs.directive.read_directive.Goals as goal
 

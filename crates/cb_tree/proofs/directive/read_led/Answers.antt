@@ -2,8 +2,8 @@ use Rattle.std.proofs.Common.{[], ◌∷◌, false, drop, refl, subst, ◌∙◌
 use Rattle.std.proofs.lemmas.Result.{err_from_is_err_and}
 use Rattle.cb_tokens.specs.declared.token.TokenKind.TheVariants as token
 use Rattle.cb_tree.specs.Nodes.{Node}
-use Rattle.cb_tree.specs.Heads.{hash_token, name_of, name_token, tokens_with}
-use Rattle.cb_tree.specs.Reads.{Reads, ReadsDirective}
+use Rattle.cb_tree.specs.inner.Heads.{hash_token, name_of, name_token, tokens_with}
+use Rattle.cb_tree.specs.inner.Reads.{Reads, ReadsDirective}
 use Rattle.cb_tree.proofs.Directives.{named_node}
 use Rattle.cb_tree.proofs.directive.read_led.Goals as goal
 

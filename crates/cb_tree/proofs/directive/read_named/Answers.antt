@@ -3,8 +3,8 @@ use Rattle.std.proofs.lemmas.Result.{err_from_is_err_and}
 use Rattle.cb_lines.specs.Marks.{bytes_of}
 use Rattle.cb_tokens.specs.declared.token.PieceKind.TheVariants as kinds
 use Rattle.cb_tree.specs.Nodes.{Node}
-use Rattle.cb_tree.specs.Heads.{hash_token, tokens_with}
-use Rattle.cb_tree.specs.Reads.{Reads}
+use Rattle.cb_tree.specs.inner.Heads.{hash_token, tokens_with}
+use Rattle.cb_tree.specs.inner.Reads.{Reads}
 use Rattle.cb_tree.proofs.Pieces.{within}
 use Rattle.cb_tree.proofs.Runs.{kept_few}
 use Rattle.cb_tree.proofs.Directives.{directive_token, named_node}

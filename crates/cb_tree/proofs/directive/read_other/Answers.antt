@@ -4,7 +4,7 @@ use Rattle.cb_lines.specs.Marks.{bytes_of}
 use Rattle.cb_tokens.specs.declared.token.Token.{Token}
 use Rattle.cb_tokens.specs.declared.token.PieceKind.TheVariants as kinds
 use Rattle.cb_tree.specs.Kinds.{kind_behind_hash}
-use Rattle.cb_tree.specs.Heads.{IsUnnamed, hash_token}
+use Rattle.cb_tree.specs.inner.Heads.{IsUnnamed, hash_token}
 use Rattle.cb_tree.proofs.Pieces.{shorter, within}
 use Rattle.cb_tree.proofs.Rows.{one_kept}
 use Rattle.cb_tree.proofs.Heads.{own_part}

@@ -1,7 +1,7 @@
 use Rattle.std.proofs.Common.{ℕ, ◌≤◌, List, false, length}
 use Rattle.cb_lines.specs.declared.mark.Mark.{Mark}
 use Rattle.cb_tokens.specs.declared.token.Token.{Token}
-use Rattle.cb_tree.specs.Reads.{ReadsDirective}
+use Rattle.cb_tree.specs.inner.Reads.{ReadsDirective}
 use Rattle.cb_tree.proofs.opening.pass_to_second.Given as goal
 
 abbrev pub invariant-pieces : goal.invariant-pieces

@@ -1,5 +1,5 @@
 use Rattle.std.proofs.Common.{[], length}
-use Rattle.cb_tree.specs.Reads.{Reads}
+use Rattle.cb_tree.specs.inner.Reads.{Reads}
 use Rattle.cb_tree.proofs.reading.skip_white.Given as goal
 
 abbrev pub invariant-pieces : goal.invariant-pieces

@@ -1,6 +1,6 @@
 use Rattle.std.proofs.Common.{ℕ, ◌≡◌, ◌+◌, ◌-◌, ◌<◌, ◌≤◌, false, length, slice_index}
 use Rattle.cb_lines.specs.Marks.{is_line_feed}
-use Rattle.cb_tree.specs.Reads.{GoesInRow}
+use Rattle.cb_tree.specs.inner.Reads.{GoesInRow}
 use Rattle.cb_tree.proofs.row.read_row.Given as goal
 
 abbrev pub invariant-pieces : goal.invariant-pieces

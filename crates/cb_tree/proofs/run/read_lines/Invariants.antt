@@ -1,6 +1,6 @@
 use Rattle.std.proofs.Common.{◌+◌, ◌≤◌, List, length}
 use Rattle.cb_lines.specs.declared.mark.Mark.{Mark}
-use Rattle.cb_tree.specs.Reads.{ReadsRun}
+use Rattle.cb_tree.specs.inner.Reads.{ReadsRun}
 use Rattle.cb_tree.proofs.run.read_lines.Given as goal
 
 abbrev pub invariant-pieces : goal.invariant-pieces

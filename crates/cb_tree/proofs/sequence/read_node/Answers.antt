@@ -2,7 +2,7 @@ use Rattle.std.proofs.Common.{[], refl, ◌∙◌, sym, subst, List, arith}
 use Rattle.std.proofs.lemmas.List.{append-nil}
 use Rattle.std.proofs.lemmas.Result.{err_from_is_err_and}
 use Rattle.cb_lines.specs.declared.mark.Mark.{Mark}
-use Rattle.cb_tree.specs.Reads.{Reads}
+use Rattle.cb_tree.specs.inner.Reads.{Reads}
 use Rattle.cb_tree.proofs.ReadsMore.{reads_on, tells_after}
 use Rattle.cb_lines.specs.Marks.{bytes_of}
 use Rattle.cb_tree.proofs.Hash.{hash_bytes}

@@ -2,7 +2,7 @@ use Rattle.std.proofs.Common.{◌≡◌, ℕ, ap, ◌∙◌, sym, subst, Ok, Err
 use Rattle.std.proofs.lemmas.Result.{err_from_is_err_and}
 use Rattle.cb_tree.specs.Nodes.{first_of}
 use Rattle.cb_tree.specs.Sections.{sections_after}
-use Rattle.cb_tree.specs.Heads.{nodes_in, node_with}
+use Rattle.cb_tree.specs.inner.Heads.{nodes_in, node_with}
 use Rattle.cb_tree.proofs.Heads.{nodes_more, all_kept, all_within}
 use Rattle.cb_tree.proofs.NodeSteps.{progress_on, refuses_node, refuses_open, refuses_at_end, sound_at_end, total_last}
 use Rattle.cb_tree.proofs.sequence.read_nodes.Goals as goal

@@ -1,5 +1,5 @@
 use Rattle.std.proofs.Common.{◌≡◌, ◌+◌, ◌≤◌, length}
-use Rattle.cb_tree.specs.Heads.{nodes_in, AreWithin, kept_up_to}
+use Rattle.cb_tree.specs.inner.Heads.{nodes_in, AreWithin, kept_up_to}
 use Rattle.cb_tree.specs.Nodes.{total_lines}
 use Rattle.cb_tree.proofs.NodeSteps.{Progress}
 use Rattle.cb_tree.proofs.sequence.read_nodes.Given as goal

@@ -1,7 +1,7 @@
 use Rattle.std.proofs.Common.{◌≡◌, inl, inr, refl, List, [], subst}
 use Rattle.cb_lines.specs.declared.mark.Mark.{Mark}
 use Rattle.cb_tokens.specs.Cut.{Cuts}
-use Rattle.cb_tree.specs.Nodes.{nodes_of}
+use Rattle.cb_tree.specs.inner.Reads.{piece_nodes}
 use Rattle.cb_tree.proofs.Pieces.{shorter}
 use Rattle.cb_tree.proofs.NodeSteps.{cuts_on, reads_cut, open_behind}
 use Rattle.cb_tree.proofs.sequence.read_out.Goals as goal
@@ -19,7 +19,7 @@ pub returns-in-Ok-None : goal.returns-in-Ok-None
 returns-in-Ok-None c =
     let P : List Mark → Type 0 = λ rest. Cuts c.args.walk.now c.pieces.invariant.0 rest in
     let end : c.pieces.walk ≡ [] = rw c.in-Ok-None.field-0-is at c.in-Ok-None.ensures in
-    inl (refl, nodes_of c.pieces.invariant.0, reads_cut c.args.walk.now c.pieces.invariant.0 (subst P end c.pieces.invariant.1))
+    inl (refl, piece_nodes c.pieces.invariant.0, reads_cut c.args.walk.now c.pieces.invariant.0 (subst P end c.pieces.invariant.1))
 
 pub returns-in-Err : goal.returns-in-Err
 returns-in-Err c = inr (open_behind c.args.walk.now c.pieces.invariant.0 c.pieces.walk c.in-Err.open_comment c.pieces.invariant.1 c.in-Err.ensures)

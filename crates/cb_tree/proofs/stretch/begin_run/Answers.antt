@@ -3,7 +3,7 @@ use Rattle.cb_lines.specs.declared.mark.Mark.{Mark}
 use Rattle.cb_lines.specs.Marks.{bytes_of, first_line, is_line_feed}
 use Rattle.cb_lines.specs.Lines.{with_line, StandOn}
 use Rattle.cb_tree.specs.declared.reading.Place.TheVariants.{InLine}
-use Rattle.cb_tree.specs.Reads.{ReadsRun}
+use Rattle.cb_tree.specs.inner.Reads.{ReadsRun}
 use Rattle.cb_tree.proofs.Rows.{front_byte}
 use Rattle.cb_tree.proofs.Stretches.{start_stretch}
 use Rattle.cb_tree.proofs.stretch.begin_run.Goals as goal

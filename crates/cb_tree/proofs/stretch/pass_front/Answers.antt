@@ -5,7 +5,7 @@ use Rattle.cb_tokens.specs.declared.first.First.TheVariants as first
 use Rattle.cb_tokens.specs.declared.token.PieceKind.TheVariants as kinds
 use Rattle.cb_tokens.specs.Cut.{StandsFirst}
 use Rattle.cb_tree.specs.declared.reading.Place.TheVariants.{LineStart, InLine}
-use Rattle.cb_tree.specs.Reads.{ReadsRun}
+use Rattle.cb_tree.specs.inner.Reads.{ReadsRun}
 use Rattle.cb_tree.proofs.Runs.{run_line_end}
 use Rattle.cb_tree.proofs.Rows.{bytes_behind, behind_both}
 use Rattle.cb_tree.proofs.stretch.pass_front.Goals as goal

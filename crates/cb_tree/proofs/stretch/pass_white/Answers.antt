@@ -3,7 +3,7 @@ use Rattle.cb_lines.specs.declared.mark.Mark.{Mark}
 use Rattle.cb_tokens.specs.declared.first.First.TheVariants as first
 use Rattle.cb_tokens.specs.declared.token.PieceKind.TheVariants as kinds
 use Rattle.cb_tokens.specs.Cut.{StandsFirst}
-use Rattle.cb_tree.specs.Reads.{Reads, ReadsRun}
+use Rattle.cb_tree.specs.inner.Reads.{Reads, ReadsRun}
 use Rattle.cb_tree.proofs.Runs.{run_white}
 use Rattle.cb_tree.proofs.ReadsMore.{reads_blank}
 use Rattle.cb_tree.proofs.stretch.pass_white.Goals as goal
