@@ -4,12 +4,14 @@ use Prim.Native.Nat.{zero, suc}
 use Rattle.std.specs.Prelude.{slice_get, IsSome}
 use Rattle.std.specs.Option.{option_map}
 use Rattle.cb_tree.specs.declared.node.NodeKind.{NodeKind}
-use Rattle.cb_tree.specs.declared.node.NodeKind.TheVariants.{Text, If, Ifdef, Ifndef, Elif, Else, Endif, Define, Undef, Include, Once, Error, Other}
+use Rattle.cb_tree.specs.declared.role.Role.{Role}
+use Rattle.cb_tree.specs.declared.role.Role.TheVariants as role
 use Rattle.cb_tree.specs.declared.sections.OpenSection.{OpenSection}
 use Rattle.cb_tree.specs.Nodes.{Node}
 use Rattle.cb_tree.specs.Sections.{fault_at_end, first_fault}
-use Rattle.cb_tree.specs.Groups.{kinds_of, turn_at, next_turn, end_behind, group_end_of}
-use Rattle.cb_tree.specs.Roles.{opens_group}
+use Rattle.cb_tree.specs.Groups.{kinds_of, turn_by, turn_at, next_turn, end_behind, group_end_of}
+use Rattle.cb_tree.specs.Roles.{role_of, begins_group, opens_group}
+use Rattle.cb_tree.specs.inner.Frames.{MayStand, depth_after}
 use Rattle.cb_tree.proofs.NestSteps.{Stands, goes}
 use Rattle.cb_tree.proofs.Turns.{inner}
 
@@ -22,21 +24,16 @@ closed_some : (depth node : ℕ) (behind : ℕ → Option ℕ) (before after : L
 closed_some zero node behind before after e w h = refl
 closed_some (suc depth) node behind before after e w h = rw (inner depth) (w (suc depth - 1) (omega arith))
 
+turn_some_by : (r : Role) (node : ℕ) (behind : ℕ → Option ℕ) (depth : ℕ) (before after : List OpenSection) → length after ≡ depth_after r (length before)
+    → ((d : ℕ) → d < length after → IsSome (behind d)) → depth < length before → IsSome (turn_by r node behind depth)
+turn_some_by role.Within node behind depth before after s w h = w depth (omega (arith, s))
+turn_some_by role.Opens node behind depth before after s w h = w (depth + 1) (omega (arith, s))
+turn_some_by role.Turns node behind depth before after s w h = chosen_some (depth == 0) node (behind depth) (w depth (omega (arith, s)))
+turn_some_by role.Closes node behind depth before after s w h = closed_some depth node behind before after s w h
+
 turn_some : (kind : NodeKind) (node : ℕ) (behind : ℕ → Option ℕ) (depth : ℕ) (before after : List OpenSection) → Stands kind before after
     → ((d : ℕ) → d < length after → IsSome (behind d)) → depth < length before → IsSome (turn_at kind node behind depth)
-turn_some Text node behind depth before after s w h = w depth (omega (arith, s.depth))
-turn_some If node behind depth before after s w h = w (depth + 1) (omega (arith, s.depth))
-turn_some Ifdef node behind depth before after s w h = w (depth + 1) (omega (arith, s.depth))
-turn_some Ifndef node behind depth before after s w h = w (depth + 1) (omega (arith, s.depth))
-turn_some Elif node behind depth before after s w h = chosen_some (depth == 0) node (behind depth) (w depth (omega (arith, s.depth)))
-turn_some Else node behind depth before after s w h = chosen_some (depth == 0) node (behind depth) (w depth (omega (arith, s.depth)))
-turn_some Endif node behind depth before after s w h = closed_some depth node behind before after s.depth w h
-turn_some Define node behind depth before after s w h = w depth (omega (arith, s.depth))
-turn_some Undef node behind depth before after s w h = w depth (omega (arith, s.depth))
-turn_some Include node behind depth before after s w h = w depth (omega (arith, s.depth))
-turn_some Once node behind depth before after s w h = w depth (omega (arith, s.depth))
-turn_some Error node behind depth before after s w h = w depth (omega (arith, s.depth))
-turn_some Other node behind depth before after s w h = w depth (omega (arith, s.depth))
+turn_some kind node behind depth before after s = turn_some_by (role_of kind) node behind depth before after s.depth
 
 none_open : (sections : List OpenSection) (depth : ℕ) → fault_at_end sections ≡ None → depth < length sections → ⊥
 none_open [] depth h d = omega arith
@@ -52,20 +49,14 @@ next_some (n ∷ ns) sections node depth h d =
     (λ e w. next_some ns g.after (node + 1) e g.no_fault w) d
 
 -- a node that begins a group leaves a section open
+opens_some_by : (r : Role) (before after : ℕ) → MayStand r before → after ≡ depth_after r before → begins_group r ≡ true → 0 < after
+opens_some_by role.Within before after m d h = absurd (cc)
+opens_some_by role.Opens before after m d h = omega (arith, d)
+opens_some_by role.Turns before after m d h = omega (arith, d, m)
+opens_some_by role.Closes before after m d h = absurd (cc)
+
 opens_some : (kind : NodeKind) (before after : List OpenSection) → Stands kind before after → opens_group kind ≡ true → 0 < length after
-opens_some Text before after s h = absurd (cc)
-opens_some If before after s h = omega (arith, s.depth)
-opens_some Ifdef before after s h = omega (arith, s.depth)
-opens_some Ifndef before after s h = omega (arith, s.depth)
-opens_some Elif before after s h = omega (arith, s.depth, s.may)
-opens_some Else before after s h = omega (arith, s.depth, s.may)
-opens_some Endif before after s h = absurd (cc)
-opens_some Define before after s h = absurd (cc)
-opens_some Undef before after s h = absurd (cc)
-opens_some Include before after s h = absurd (cc)
-opens_some Once before after s h = absurd (cc)
-opens_some Error before after s h = absurd (cc)
-opens_some Other before after s h = absurd (cc)
+opens_some kind before after s = opens_some_by (role_of kind) (length before) (length after) s.may s.depth
 
 -- the end of the group that the first of these nodes begins
 first_some : (n : Node) (ns : List Node) (sections : List OpenSection) (node : ℕ) → first_fault (n ∷ ns) sections ≡ None → opens_group n.kind ≡ true

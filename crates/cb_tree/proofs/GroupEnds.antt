@@ -5,10 +5,11 @@ use Rattle.std.specs.Prelude.{slice_get}
 use Rattle.std.proofs.lemmas.List.{length-map}
 use Rattle.cb_tree.specs.Nodes.{Node}
 use Rattle.cb_tree.specs.declared.node.NodeKind.{NodeKind}
-use Rattle.cb_tree.specs.declared.node.NodeKind.TheVariants.{Text, If, Ifdef, Ifndef, Elif, Else, Endif, Define, Undef, Include, Once, Error, Other}
+use Rattle.cb_tree.specs.declared.role.Role.{Role}
+use Rattle.cb_tree.specs.declared.role.Role.TheVariants as role
 use Rattle.cb_tree.specs.inner.Trees.{entry_of}
-use Rattle.cb_tree.specs.Groups.{kinds_of, end_behind, group_end_of, turn_at, next_turn}
-use Rattle.cb_tree.specs.Roles.{opens_group}
+use Rattle.cb_tree.specs.Groups.{kinds_of, end_behind, group_end_of, turn_by, turn_at, next_turn}
+use Rattle.cb_tree.specs.Roles.{role_of, opens_group}
 use Rattle.cb_tree.specs.inner.Trees.{ends_from}
 
 -- the entry at a place
@@ -50,22 +51,18 @@ chosen_within false node rest e n behind h =
     let w = behind h in
     (omega (arith, w.0), omega (arith, w.1))
 
+turn_within_by : (r : Role) (node : ℕ) (behind : ℕ → Option ℕ) (depth e n : ℕ)
+    → ((d : ℕ) → behind d ≡ Some e → (node + 1 ≤ e) × (e < node + 1 + n))
+    → turn_by r node behind depth ≡ Some e → (node ≤ e) × (e < node + suc n)
+turn_within_by role.Within node behind depth e n w h = chosen_within false node (behind depth) e n (w depth) h
+turn_within_by role.Opens node behind depth e n w h = chosen_within false node (behind (depth + 1)) e n (w (depth + 1)) h
+turn_within_by role.Turns node behind depth e n w h = chosen_within (depth == 0) node (behind depth) e n (w depth) h
+turn_within_by role.Closes node behind depth e n w h = chosen_within (depth == 0) node (behind (depth - 1)) e n (w (depth - 1)) h
+
 turn_within : (kind : NodeKind) (node : ℕ) (behind : ℕ → Option ℕ) (depth e n : ℕ)
     → ((d : ℕ) → behind d ≡ Some e → (node + 1 ≤ e) × (e < node + 1 + n))
     → turn_at kind node behind depth ≡ Some e → (node ≤ e) × (e < node + suc n)
-turn_within Text node behind depth e n w h = chosen_within false node (behind depth) e n (w depth) h
-turn_within If node behind depth e n w h = chosen_within false node (behind (depth + 1)) e n (w (depth + 1)) h
-turn_within Ifdef node behind depth e n w h = chosen_within false node (behind (depth + 1)) e n (w (depth + 1)) h
-turn_within Ifndef node behind depth e n w h = chosen_within false node (behind (depth + 1)) e n (w (depth + 1)) h
-turn_within Elif node behind depth e n w h = chosen_within (depth == 0) node (behind depth) e n (w depth) h
-turn_within Else node behind depth e n w h = chosen_within (depth == 0) node (behind depth) e n (w depth) h
-turn_within Endif node behind depth e n w h = chosen_within (depth == 0) node (behind (depth - 1)) e n (w (depth - 1)) h
-turn_within Define node behind depth e n w h = chosen_within false node (behind depth) e n (w depth) h
-turn_within Undef node behind depth e n w h = chosen_within false node (behind depth) e n (w depth) h
-turn_within Include node behind depth e n w h = chosen_within false node (behind depth) e n (w depth) h
-turn_within Once node behind depth e n w h = chosen_within false node (behind depth) e n (w depth) h
-turn_within Error node behind depth e n w h = chosen_within false node (behind depth) e n (w depth) h
-turn_within Other node behind depth e n w h = chosen_within false node (behind depth) e n (w depth) h
+turn_within kind = turn_within_by (role_of kind)
 
 next_within : (kinds : List NodeKind) (node depth e : ℕ) → next_turn kinds node depth ≡ Some e → (node ≤ e) × (e < node + length kinds)
 next_within [] node depth e h = absurd (cc)

@@ -6,17 +6,18 @@ use Rattle.std.specs.Option.{option_map}
 use Rattle.std.proofs.lemmas.List.{take_more, take_all, drop_all, map-append, length-map, length-take-le}
 use Rattle.cb_tree.specs.declared.fault.BadSource.{BadSource}
 use Rattle.cb_tree.specs.declared.node.NodeKind.{NodeKind}
-use Rattle.cb_tree.specs.declared.node.NodeKind.TheVariants.{Text, If, Ifdef, Ifndef, Elif, Else, Endif, Define, Undef, Include, Once, Error, Other}
+use Rattle.cb_tree.specs.declared.role.Role.{Role}
+use Rattle.cb_tree.specs.declared.role.Role.TheVariants as role
 use Rattle.cb_tree.specs.declared.sections.OpenSection.{OpenSection}
 use Rattle.cb_tree.specs.declared.part.Part.{Part}
 use Rattle.cb_tree.specs.declared.part.Group.{Group}
 use Rattle.cb_tree.specs.declared.nesting.Frame.{Frame}
 use Rattle.cb_tree.specs.declared.nesting.Nesting.{Nesting}
 use Rattle.cb_tree.specs.Nodes.{Node, node_line}
-use Rattle.cb_tree.specs.Sections.{sections_after, fault_at_end, fault_or, first_fault}
+use Rattle.cb_tree.specs.Sections.{sections_by, sections_after, fault_at_end, fault_or, first_fault}
 use Rattle.cb_tree.specs.Groups.{kinds_of}
 use Rattle.cb_tree.specs.Nesting.{Placed, places_from, places_of}
-use Rattle.cb_tree.specs.Roles.{role_of}
+use Rattle.cb_tree.specs.Roles.{role_of, is_last}
 use Rattle.cb_tree.specs.inner.Frames.{MayStand, depth_after, IsPlaced, nested_places, stacked_places, AreStacked}
 
 -- what a step over sections says of their number
@@ -43,23 +44,21 @@ same before after h =
     let e : before ≡ after = cc in
     ap length (sym e)
 
+stands_by : (r : Role) (last : Bool) (line : ℕ) (before after : List OpenSection) → sections_by r last line before ≡ Ok after
+    → MayStand r (length before) × (length after ≡ depth_after r (length before))
+stands_by role.Within last line before after h = (tt, same before after h)
+stands_by role.Opens last line before after h = (tt, opens (length before == 256) _ _ before after h)
+stands_by role.Turns false line [] after h = absurd (cc)
+stands_by role.Turns false line (s ∷ ss) after h = (omega arith, keeps s.has_else _ s _ ss after h)
+stands_by role.Turns true line [] after h = absurd (cc)
+stands_by role.Turns true line (s ∷ ss) after h = (omega arith, keeps s.has_else _ s _ ss after h)
+stands_by role.Closes last line [] after h = absurd (cc)
+stands_by role.Closes last line (s ∷ ss) after h = (omega arith, omega (arith, same ss after h))
+
 stands : (kind : NodeKind) (line : ℕ) (before after : List OpenSection) → sections_after kind line before ≡ Ok after → Stands kind before after
-stands Text line before after h = record { may = tt; depth = same before after h }
-stands If line before after h = record { may = tt; depth = opens (length before == 256) _ _ before after h }
-stands Ifdef line before after h = record { may = tt; depth = opens (length before == 256) _ _ before after h }
-stands Ifndef line before after h = record { may = tt; depth = opens (length before == 256) _ _ before after h }
-stands Elif line [] after h = absurd (cc)
-stands Elif line (s ∷ ss) after h = record { may = omega arith; depth = keeps s.has_else _ s _ ss after h }
-stands Else line [] after h = absurd (cc)
-stands Else line (s ∷ ss) after h = record { may = omega arith; depth = keeps s.has_else _ s _ ss after h }
-stands Endif line [] after h = absurd (cc)
-stands Endif line (s ∷ ss) after h = record { may = omega arith; depth = omega (arith, same ss after h) }
-stands Define line before after h = record { may = tt; depth = same before after h }
-stands Undef line before after h = record { may = tt; depth = same before after h }
-stands Include line before after h = record { may = tt; depth = same before after h }
-stands Once line before after h = record { may = tt; depth = same before after h }
-stands Error line before after h = record { may = tt; depth = same before after h }
-stands Other line before after h = record { may = tt; depth = same before after h }
+stands kind line before after h =
+    let s = stands_by (role_of kind) (is_last kind) line before after h in
+    record { may = s.0; depth = s.1 }
 
 -- a step of a list without a fault
 pub record Goes (kind : NodeKind) (nodes : List Node) (before : List OpenSection) : Type 0 where

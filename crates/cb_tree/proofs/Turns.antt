@@ -6,10 +6,12 @@ use Rattle.std.specs.Option.{option_map}
 use Rattle.std.proofs.lemmas.List.{drop_all}
 use Rattle.cb_tree.specs.Nodes.{Node}
 use Rattle.cb_tree.specs.declared.node.NodeKind.{NodeKind}
-use Rattle.cb_tree.specs.declared.node.NodeKind.TheVariants.{Text, If, Ifdef, Ifndef, Elif, Else, Endif, Define, Undef, Include, Once, Error, Other}
-use Rattle.cb_tree.specs.Groups.{next_turn, kinds_of}
+use Rattle.cb_tree.specs.declared.role.Role.{Role}
+use Rattle.cb_tree.specs.declared.role.Role.TheVariants as role
+use Rattle.cb_tree.specs.Roles.{role_of}
+use Rattle.cb_tree.specs.Groups.{turn_by, next_turn, kinds_of}
 use Rattle.cb_tree.specs.inner.Trees.{ends_from}
-use Rattle.cb_tree.specs.inner.Trees.{front_of, end_by, entry_of, turns_with}
+use Rattle.cb_tree.specs.inner.Trees.{front_of, end_by, entry_of, turns_by, turns_with}
 
 -- the element at a depth
 abbrev pub at : List ℕ → ℕ → Option ℕ
@@ -48,21 +50,16 @@ closed kinds node turns h (suc depth) =
     let e : suc depth - 1 ≡ depth = omega arith in
     rw (inner depth) (ap (next_turn kinds (node + 1)) e ∙ h.each depth)
 
+turns_by_role : (r : Role) (kinds : List NodeKind) (node : ℕ) (turns : List ℕ) → AreTurns kinds (node + 1) turns
+    → (depth : ℕ) → turn_by r node (next_turn kinds (node + 1)) depth ≡ at (turns_by r node turns) depth
+turns_by_role role.Within kinds node turns h = h.each
+turns_by_role role.Opens kinds node turns h = opened kinds node turns h
+turns_by_role role.Turns kinds node turns h = turned kinds node turns h
+turns_by_role role.Closes kinds node turns h = closed kinds node turns h
+
 turns_more : (kind : NodeKind) (kinds : List NodeKind) (node : ℕ) (turns : List ℕ) → AreTurns kinds (node + 1) turns
     → AreTurns (kind ∷ kinds) node (turns_with kind node turns)
-turns_more Text kinds node turns h = record { each = h.each }
-turns_more If kinds node turns h = record { each = opened kinds node turns h }
-turns_more Ifdef kinds node turns h = record { each = opened kinds node turns h }
-turns_more Ifndef kinds node turns h = record { each = opened kinds node turns h }
-turns_more Elif kinds node turns h = record { each = turned kinds node turns h }
-turns_more Else kinds node turns h = record { each = turned kinds node turns h }
-turns_more Endif kinds node turns h = record { each = closed kinds node turns h }
-turns_more Define kinds node turns h = record { each = h.each }
-turns_more Undef kinds node turns h = record { each = h.each }
-turns_more Include kinds node turns h = record { each = h.each }
-turns_more Once kinds node turns h = record { each = h.each }
-turns_more Error kinds node turns h = record { each = h.each }
-turns_more Other kinds node turns h = record { each = h.each }
+turns_more kind kinds node turns h = record { each = turns_by_role (role_of kind) kinds node turns h }
 
 front_is : (turns : List ℕ) → front_of turns ≡ at turns 0
 front_is [] = refl
@@ -84,7 +81,7 @@ back_start kinds left h =
     }
 
 back_by : (kinds : List NodeKind) (m : ℕ) (kind : NodeKind) (ends : List ℕ) (turns : List ℕ) → Back kinds (suc m) ends turns
-    → drop m kinds ≡ kind ∷ drop (suc m) kinds → Back kinds m (entry_of (end_by kind turns) ∷ ends) (turns_with kind (suc m) turns)
+    → drop m kinds ≡ kind ∷ drop (suc m) kinds → Back kinds m (entry_of (end_by (role_of kind) turns) ∷ ends) (turns_with kind (suc m) turns)
 back_by kinds m kind ends turns b e =
     let first : front_of turns ≡ next_turn (drop (suc m) kinds) (suc m + 1) 0 = front_is turns ∙ sym (b.turns_are.each 0) in
     record {
@@ -94,13 +91,13 @@ back_by kinds m kind ends turns b e =
     }
 
 pub back_more : (kinds : List NodeKind) (left m : ℕ) (kind : NodeKind) (ends : List ℕ) (turns : List ℕ) → Back kinds left ends turns
-    → left ≡ m + 1 → kind ≡ get_or kinds m kind → Back kinds m (entry_of (end_by kind turns) ∷ ends) (turns_with kind left turns)
+    → left ≡ m + 1 → kind ≡ get_or kinds m kind → Back kinds m (entry_of (end_by (role_of kind) turns) ∷ ends) (turns_with kind left turns)
 back_more kinds left m kind ends turns b e kind_is =
     let l : left ≡ suc m = e ∙ add-one m in
     let within : m < length kinds = omega (arith, b.within) in
     let d : drop m kinds ≡ kind ∷ drop (suc m) kinds = drop-cons kinds m kind within ∙ ap (λ x. x ∷ drop (suc m) kinds) (sym kind_is) in
     let P : ℕ → Type 0 = λ x. Back kinds x ends turns in
-    let Q : ℕ → Type 0 = λ x. Back kinds m (entry_of (end_by kind turns) ∷ ends) (turns_with kind x turns) in
+    let Q : ℕ → Type 0 = λ x. Back kinds m (entry_of (end_by (role_of kind) turns) ∷ ends) (turns_with kind x turns) in
     subst Q (sym l) (back_by kinds m kind ends turns (subst P l b) d)
 
 -- the kind at a place

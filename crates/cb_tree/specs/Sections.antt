@@ -4,15 +4,16 @@ use Rattle.cb_tree.specs.declared.node.NodeKind.{NodeKind}
 use Rattle.cb_tree.specs.declared.role.Role.{Role}
 use Rattle.cb_tree.specs.declared.role.Role.TheVariants as role
 use Rattle.cb_tree.specs.Roles.{role_of, is_last}
+use Rattle.cb_paths.specs.declared.limits.TheConstants.{SECTION_LIMIT}
 use Rattle.cb_tree.specs.declared.fault.SourceKind.TheVariants as kind
 use Rattle.cb_tree.specs.declared.fault.BadSource.{BadSource}
 use Rattle.cb_tree.specs.declared.sections.OpenSection.{OpenSection}
 use Rattle.cb_tree.specs.Nodes.{Node, node_line}
 
--- a section opens; at most 256 are open at once (own)
+-- a section opens, unless as many are open as may be (own)
 abbrev pub opened : ℕ → List OpenSection → Result (List OpenSection) BadSource
 opened line sections =
-    if length sections == 256 then Err (record { kind = kind.TooDeep; line = line })
+    if length sections == SECTION_LIMIT then Err (record { kind = kind.TooDeep; line = line })
     else Ok (record { line = line; has_else = false } ∷ sections)
 
 -- #elif, which no section may have after its #else (6.10 paragraph 1)

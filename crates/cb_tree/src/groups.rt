@@ -2,40 +2,31 @@
 ghost use Rattle.std.specs.Prelude.{◌≡◌, ◌≤◌, length, map, reverse, IfOk, OnOk};
 ghost use Rattle.cb_tree.specs.Groups.{kinds_of};
 ghost use Rattle.cb_tree.specs.inner.Trees.{ends_from};
-ghost use Rattle.cb_tree.specs.inner.Trees.{end_by, entry_of, turns_with};
+ghost use Rattle.cb_tree.specs.inner.Trees.{end_by, entry_of, turns_by};
 
-use crate::node::NodeKind;
 use crate::nodes::Nodes;
+use crate::role::{Role, find_role};
 use cb_paths::NoMemory;
 use std::alloc::Global;
 
-/// Goes to a node from those behind it, and answers the end of the group that it begins. The numbers of the next `#elif`,
-/// `#else` or `#endif` of the sections that are open there are kept with the innermost last.
-fn step_back(turns: &mut Vec<u32>, kind: NodeKind, node: u32) -> Result<Option<u32>, NoMemory>
-    ensures end { IfOk result (λ end. end ≡ end_by kind (reverse turns.old.items)) }
-    ensures turns { OnOk result (reverse turns.new.items ≡ turns_with kind node (reverse turns.old.items)) }
+/// Goes to a node in this role from those behind it, and answers the end of the group that it begins. The numbers of the next
+/// `#elif`, `#else` or `#endif` of the sections that are open there are kept with the innermost last.
+fn step_back(turns: &mut Vec<u32>, role: Role, node: u32) -> Result<Option<u32>, NoMemory>
+    ensures end { IfOk result (λ end. end ≡ end_by role (reverse turns.old.items)) }
+    ensures turns { OnOk result (reverse turns.new.items ≡ turns_by role node (reverse turns.old.items)) }
 {
-    if kind == NodeKind::Text {
-        return Ok(None);
-    }
-    match kind {
-        NodeKind::If | NodeKind::Ifdef | NodeKind::Ifndef => Ok(turns.pop()),
-        NodeKind::Elif | NodeKind::Else => {
+    match role {
+        Role::Within => Ok(None),
+        Role::Opens => Ok(turns.pop()),
+        Role::Turns => {
             let end = turns.pop();
             turns.push(node)?;
             Ok(end)
         }
-        NodeKind::Endif => {
+        Role::Closes => {
             turns.push(node)?;
             Ok(None)
         }
-        NodeKind::Text
-        | NodeKind::Define
-        | NodeKind::Undef
-        | NodeKind::Include
-        | NodeKind::Once
-        | NodeKind::Error
-        | NodeKind::Other => Ok(None),
     }
 }
 
@@ -50,7 +41,7 @@ pub(crate) fn group_ends(alloc: Global, nodes: &Nodes) -> Result<Vec<u32>, NoMem
     'nodes: while left > 0 {
         let node = left as u32;
         left -= 1;
-        let end = step_back(&mut turns, nodes.kind(left), node)?;
+        let end = step_back(&mut turns, find_role(nodes.kind(left)), node)?;
         ends.push(end.unwrap_or(0))?;
     }
     ends.reverse();

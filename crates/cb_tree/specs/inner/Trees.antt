@@ -7,7 +7,7 @@ use Rattle.cb_tree.specs.declared.role.Role.TheVariants as role
 use Rattle.cb_tree.specs.declared.part.Part.{Part}
 use Rattle.cb_tree.specs.Nesting.{places_of, places_from}
 use Rattle.cb_tree.specs.Groups.{kinds_of, next_turn}
-use Rattle.cb_tree.specs.Roles.{role_of, opens_group}
+use Rattle.cb_tree.specs.Roles.{role_of, begins_group, opens_group}
 use Rattle.cb_tree.specs.Nodes.{Node, AreCounted}
 use Rattle.cb_tree.specs.Sections.{first_fault}
 
@@ -33,9 +33,9 @@ abbrev pub front_of : List ℕ → Option ℕ
 front_of [] = None
 front_of (x ∷ xs) = Some x
 
--- the end of the group that a node of this kind begins, where the next turns of the sections that are open behind it are these
-abbrev pub end_by : NodeKind → List ℕ → Option ℕ
-end_by kind turns = if opens_group kind then front_of turns else None
+-- the end of the group that a node in this role begins, where the next turns of the sections that are open behind it are these
+abbrev pub end_by : Role → List ℕ → Option ℕ
+end_by r turns = if begins_group r then front_of turns else None
 
 -- the next turns of the open sections from a node in this role on
 abbrev pub turns_by : Role → ℕ → List ℕ → List ℕ
