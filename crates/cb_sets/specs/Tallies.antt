@@ -1,6 +1,6 @@
 -- Lines counted by the set of platforms that use them.
-use Rattle.std.specs.Prelude.{◌≡◌, ℕ, ◌+◌, ◌<◌, Bool, true, false, if◌then◌else◌, List, [], ◌∷◌, sum_by}
-use Rattle.std.specs.List.{range_with_len}
+use Rattle.std.specs.Prelude.{◌≡◌, ℕ, ◌+◌, ◌<◌, ◌≤◌, Bool, true, false, if◌then◌else◌, List, [], ◌∷◌, sum_by}
+use Rattle.std.specs.List.{All, range_with_len}
 use Rattle.std.specs.Str.{bytes_eq}
 use Rattle.cb_lines.specs.Lines.{has_line}
 use Rattle.cb_paths.specs.Grid.{share, mean}
@@ -63,6 +63,10 @@ abbrev pub AreInOrder : List SetLines → Type 0
 AreInOrder [] = Unit {0}
 AreInOrder (r ∷ []) = Unit {0}
 AreInOrder (r ∷ s ∷ rs) = (precedes r.members s.members ≡ true) × AreInOrder (s ∷ rs)
+
+-- a row has a line, and its set holds none but the platforms up to a number (own)
+abbrev pub IsRow : ℕ → SetLines → Type 0
+IsRow platforms row = (0 < row.lines) × All (λ platform. platform ≤ platforms) row.members
 
 -- the lines that some platform uses, as a share of all lines (own)
 abbrev pub coverage_of : Tally → ℕ

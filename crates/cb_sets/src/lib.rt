@@ -10,6 +10,6 @@ mod rows;
 mod setmap;
 
 pub use covering::{average, coverage};
-pub use platform_set::{PLATFORM_LIMIT, PlatformSet};
+pub use platform_set::{PLATFORM_LIMIT, PlatformSet, listed_members};
 pub use row::Row;
 pub use setmap::Setmap;

@@ -1,5 +1,7 @@
 //! Sets of platforms.
-ghost use Rattle.std.specs.Prelude.{◌≡◌, ◌<◌, ◌≤◌, ◌==◌, [], length};
+ghost use Rattle.std.specs.Prelude.{◌≡◌, ◌<◌, ◌≤◌, ◌==◌, ℕ, [], length, filter};
+ghost use Rattle.std.specs.List.{All, range_with_len};
+ghost use Rattle.cb_sets.specs.declared.platform_set.PlatformSet.{PlatformSet};
 ghost use Rattle.cb_lines.specs.Lines.{with_line, has_line, union_of};
 ghost use Rattle.cb_sets.specs.Sets.{members, platform_limit};
 ghost use Rattle.cb_sets.specs.inner.Ranks.{rank_of};
@@ -75,4 +77,14 @@ impl PlatformSet {
     {
         u64::from(self.bits.count_ones()) * 4_294_967_296 + u64::from(u32::MAX - self.bits)
     }
+}
+
+/// The members of a set are those of the first platforms that it holds, in their order, if it holds no others; and none has a
+/// number above 32.
+pub fn listed_members()
+    ensures listed { (set : PlatformSet) (count : ℕ) → All (λ platform. platform ≤ count) (members set)
+        → members set ≡ filter (has_line (members set)) (range_with_len 1 count) }
+    ensures within { (set : PlatformSet) → All (λ platform. platform ≤ platform_limit) (members set) }
+{
+    rising_sets();
 }

@@ -3,7 +3,8 @@ ghost use Rattle.std.specs.Prelude.{◌≡◌, ◌+◌, ◌^◌, ◌<◌, ◌≤
 ghost use Rattle.std.specs.Str.{bytes_eq};
 ghost use Rattle.cb_lines.specs.Lines.{has_line};
 ghost use Rattle.cb_sets.specs.Sets.{members, platform_limit};
-ghost use Rattle.cb_sets.specs.Tallies.{users, with_file, lines_where, is_any, is_used, lines_of, AreInOrder};
+ghost use Rattle.cb_sets.specs.Tallies.{users, with_file, lines_where, is_any, is_used, lines_of, AreInOrder, IsRow};
+ghost use Rattle.std.specs.List.{All};
 ghost use Rattle.cb_sets.specs.inner.Rows.{seen, Rise, IsWith};
 
 use crate::counting::{Test, count_where};
@@ -27,14 +28,15 @@ pub struct Setmap {
 impl Model for Setmap {
     ghost use Rattle.std.specs.Prelude.{map, ◌<◌, ◌≤◌, ◌^◌};
     ghost use Rattle.cb_sets.specs.Sets.{platform_limit};
-    ghost use Rattle.cb_sets.specs.Tallies.{Tally, lines_where, is_any};
+    ghost use Rattle.cb_sets.specs.Tallies.{Tally, IsRow, lines_where, is_any};
+    ghost use Rattle.std.specs.List.{All};
     ghost use Rattle.cb_sets.specs.inner.Rows.{seen, Rise};
 
     ghost Value = { Tally };
 
     ghost view = { λ m. record { platforms = m.platforms; rows = map seen m.rows.items } };
 
-    ghost invariant = { λ m. (m.platforms ≤ platform_limit) × Rise 0 m.rows.items × (lines_where is_any (map seen m.rows.items) < 2 ^ 32) };
+    ghost invariant = { λ m. (m.platforms ≤ platform_limit) × Rise 0 m.rows.items × (lines_where is_any (map seen m.rows.items) < 2 ^ 32) × All (IsRow m.platforms) (map seen m.rows.items) };
 }
 
 /// Rows with the lines of a file more, each for the set of the platforms that use it.
@@ -96,6 +98,7 @@ impl Setmap {
     pub fn rows(&self) -> &[Row]
         ensures rows { map seen result.now ≡ self.now.rows }
         ensures order { AreInOrder self.now.rows }
+        ensures known { All (IsRow self.now.platforms) self.now.rows }
     {
         self.rows.as_slice()
     }
