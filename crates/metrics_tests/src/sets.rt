@@ -26,6 +26,10 @@ struct Case {
     average: Option<u64>,
 }
 
+/// The number of lines that a setmap stays below.
+const MOST: u64 = 4_294_967_296;
+
+/// The grid value of 1.
 const ALL: u64 = 1_000_000_000_000;
 
 const CASES: [Case; 6] = [
@@ -135,7 +139,7 @@ fn lines_of(alloc: Global, spans: &[(u32, u32)]) -> Result<Lines, NoMemory> {
 
 /// Adds a file, if it has as many platforms as the setmap and no more lines than fit.
 fn add_lines(map: &mut Setmap, counted: &Lines, used: &[Lines]) -> Result<(), NoMemory> {
-    if used.len() != map.platforms() as usize || map.total() + counted.count() >= 1 << 32 {
+    if used.len() != map.platforms() as usize || counted.count() >= MOST - map.total() {
         return Ok(());
     }
     map.add_file(counted, used)
