@@ -1,5 +1,6 @@
 -- The marks of a source: what is left of it when each backslash before a line end is taken away with that line end.
-use Rattle.std.specs.Prelude.{ℕ, ◌+◌, ◌-◌, ◌^◌, ◌==◌, ◌&&◌, ◌||◌, Bool, if◌then◌else◌, List, [], ◌∷◌, length, take, map, min, count_by, slice_index}
+use Rattle.std.specs.Prelude.{ℕ, ◌+◌, ◌-◌, ◌^◌, ◌==◌, ◌&&◌, ◌||◌, Bool, if◌then◌else◌}
+use Rattle.std.specs.Prelude.{List, [], ◌∷◌, length, take, map, min, count_by, slice_index}
 use Rattle.std.specs.List.{flat_map, range_with_len}
 use Rattle.cb_lines.specs.declared.mark.Mark.{Mark}
 
@@ -23,7 +24,8 @@ begins_line_end source i = is_line_feed (byte_at source i) || is_line_return sou
 abbrev pub is_splice : List ℕ → ℕ → Bool
 is_splice source i = (byte_at source i == 92) && begins_line_end source (i + 1)
 
--- the LF of a line end after such a backslash, which stands one byte or, with a CR between, two bytes before it (5.1.1.2, phase 2)
+-- the LF of a line end after such a backslash, which stands one byte or, with a CR between, two bytes before it
+-- (5.1.1.2, phase 2)
 abbrev pub is_spliced_feed : List ℕ → ℕ → Bool
 is_spliced_feed source i =
     is_line_feed (byte_at source i)

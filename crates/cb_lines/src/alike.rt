@@ -21,7 +21,8 @@ pub(crate) fn stretch_from(spans: &[Span], first: u32, last: u32) -> Stretch
     requires rising { first ≤ last }
     ensures from { first ≤ result.last }
     ensures within { result.last ≤ last }
-    ensures alike { (line : ℕ) → first ≤ line → line ≤ result.last → has_line (flat_map span_lines spans.now) line ≡ result.is_held }
+    ensures alike { (line : ℕ) → first ≤ line → line ≤ result.last → has_line (flat_map span_lines spans.now) line
+        ≡ result.is_held }
     ensures whole { result.last < last → has_line (flat_map span_lines spans.now) (result.last + 1) ≢ result.is_held }
 {
     let at = count_before(spans, first);

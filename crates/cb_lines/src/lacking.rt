@@ -9,7 +9,8 @@ use cb_paths::NoMemory;
 /// Adds the lines of a stretch to a set, unless they are held.
 fn add_unless_held(lines: &mut Lines, first: u32, stretch: Stretch) -> Result<(), NoMemory>
     ensures { OnOk result ((line : ℕ) → has_line lines.new line
-        ≡ (has_line lines.old line || (not stretch.is_held && has_line (span_lines (record { first = first; last = stretch.last })) line))) }
+        ≡ (has_line lines.old line
+        || (not stretch.is_held && has_line (span_lines (record { first = first; last = stretch.last })) line))) }
 {
     if stretch.is_held {
         return Ok(());

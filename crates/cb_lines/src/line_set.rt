@@ -1,5 +1,6 @@
 //! Sets of line numbers.
-ghost use Rattle.std.specs.Prelude.{◌≡◌, ◌≢◌, ◌+◌, ◌<◌, ◌≤◌, ◌||◌, ◌&&◌, ◌++◌, not, true, ℕ, [], ◌∷◌, length, filter, IfOk, OnOk};
+ghost use Rattle.std.specs.Prelude.{◌≡◌, ◌≢◌, ◌+◌, ◌<◌, ◌≤◌, ◌||◌, ◌&&◌, ◌++◌};
+ghost use Rattle.std.specs.Prelude.{not, true, ℕ, [], ◌∷◌, length, filter, IfOk, OnOk};
 ghost use Rattle.cb_lines.specs.Lines.{with_line, has_line, union_of, span_lines, AreMaximal};
 ghost use Rattle.std.specs.List.{flat_map};
 ghost use Rattle.std.specs.List.Sorted.{IsStrictlyIncreasing};
@@ -22,7 +23,8 @@ pub struct Span {
     pub last: u32,
 }
 
-/// A set of line numbers, which contracts see as their rising list. It takes 16 bytes, and one span takes no memory of its own.
+/// A set of line numbers, which contracts see as their rising list. It takes 16 bytes, and one span takes no memory of
+/// its own.
 #[derive(Drop)]
 pub struct Lines {
     spans: SpanList,
@@ -64,8 +66,8 @@ impl Lines {
         }
     }
 
-    /// Adds a line, which the set may hold already; a line on the last span, or behind all others, takes no search. Its one
-    /// error is out of memory, after which the set may be used on, and no more is said of it.
+    /// Adds a line, which the set may hold already; a line on the last span, or behind all others, takes no search.
+    /// Its one error is out of memory, after which the set may be used on, and no more is said of it.
     #[inline]
     pub fn add(&mut self, line: u32) -> Result<(), NoMemory>
         ensures { OnOk result (self.new ≡ with_line line self.old) }
@@ -73,8 +75,8 @@ impl Lines {
         add_line(&mut self.spans, line)
     }
 
-    /// Adds the lines of a span, at once where the span begins on the last one or behind all others. Its one error is out of
-    /// memory, after which the set may be used on, and no more is said of it.
+    /// Adds the lines of a span, at once where the span begins on the last one or behind all others. Its one error is
+    /// out of memory, after which the set may be used on, and no more is said of it.
     #[inline]
     pub fn add_span(&mut self, span: Span) -> Result<(), NoMemory>
         ensures { OnOk result (self.new ≡ union_of (span_lines span) self.old) }
@@ -82,11 +84,12 @@ impl Lines {
         add_span(&mut self.spans, span)
     }
 
-    /// Adds the lines of another set: span by span, each at once, where they lie behind the lines of this one. Its one error is
-    /// out of memory, after which the set may be used on, and no more is said of it.
+    /// Adds the lines of another set: span by span, each at once, where they lie behind the lines of this one. Its one
+    /// error is out of memory, after which the set may be used on, and no more is said of it.
     pub fn append(&mut self, other: &Lines) -> Result<(), NoMemory>
         ensures lines { OnOk result (self.new ≡ union_of other.now self.old) }
-        ensures behind { ((line next : ℕ) → has_line self.old line ≡ true → has_line other.now next ≡ true → line < next)
+        ensures behind { ((line next : ℕ) → has_line self.old line ≡ true → has_line other.now next ≡ true
+            → line < next)
             → OnOk result (self.new ≡ self.old ++ other.now) }
     {
         'spans: for span in other.spans() {
@@ -132,16 +135,19 @@ impl Lines {
     /// The lines that this set or another one holds, in time linear in their spans. Its one error is out of memory.
     pub fn union(&self, alloc: Global, other: &Lines) -> Result<Lines, NoMemory>
         ensures lines { IfOk result (λ union. union ≡ union_of self.now other.now) }
-        ensures members { IfOk result (λ union. (line : ℕ) → has_line union line ≡ (has_line self.now line || has_line other.now line)) }
+        ensures members { IfOk result (λ union. (line : ℕ) → has_line union line
+            ≡ (has_line self.now line || has_line other.now line)) }
     {
         let spans = merged(alloc, self.spans.as_slice(), other.spans.as_slice())?;
         Ok(Lines { spans })
     }
 
-    /// The lines of this set that another one lacks, with one binary search for each span. Its one error is out of memory.
+    /// The lines of this set that another one lacks, with one binary search for each span. Its one error is out of
+    /// memory.
     pub fn minus(&self, alloc: Global, other: &Lines) -> Result<Lines, NoMemory>
         ensures lines { IfOk result (λ rest. rest ≡ filter (λ line. not (has_line other.now line)) self.now) }
-        ensures members { IfOk result (λ rest. (line : ℕ) → has_line rest line ≡ (has_line self.now line && not (has_line other.now line))) }
+        ensures members { IfOk result (λ rest. (line : ℕ) → has_line rest line
+            ≡ (has_line self.now line && not (has_line other.now line))) }
     {
         let mut rest = Lines::new(alloc);
         'spans: for span in self.spans() {

@@ -11,8 +11,8 @@ pub struct Mark {
     pub line: u32,
 }
 
-/// The marks of a source, which contracts see as the list of them. They are kept in a byte each, or lent where they are all the
-/// bytes of the source, and a number for each splice.
+/// The marks of a source, which contracts see as the list of them. They are kept in a byte each, or lent where they
+/// are all the bytes of the source, and a number for each splice.
 #[derive(Drop)]
 pub struct Marks<'a> {
     pub(crate) bytes: CowSlice<'a, u8>,

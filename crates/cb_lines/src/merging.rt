@@ -1,5 +1,6 @@
 //! The spans of two sets made those of one.
-ghost use Rattle.std.specs.Prelude.{◌≡◌, ◌+◌, ◌||◌, ◌<◌, ◌≤◌, ◌↔◌, ℕ, [], length, slice_index_or, MatchOption, IfOk, OnOk, IsTrue};
+ghost use Rattle.std.specs.Prelude.{◌≡◌, ◌+◌, ◌||◌, ◌<◌, ◌≤◌, ◌↔◌, ℕ};
+ghost use Rattle.std.specs.Prelude.{[], length, slice_index_or, MatchOption, IfOk, OnOk, IsTrue};
 ghost use Rattle.cb_lines.specs.declared.line_set.Span.{Span};
 ghost use Rattle.cb_lines.specs.Lines.{has_line, union_of, span_lines, AreMaximal};
 ghost use Rattle.cb_lines.specs.inner.Merging.{BeginsFrom, TakesFirst, last_first};
@@ -19,7 +20,8 @@ struct Pair<'a> {
 
 /// Whether the first of these spans begins no later than the first of the others.
 fn begins_first(spans: &[Span], others: &[Span]) -> bool
-    ensures { IsTrue result ↔ ((0 < length spans.now) × BeginsFrom (slice_index_or spans.now 0 (record { first = 0; last = 0 })).first others.now) }
+    ensures { IsTrue result ↔ ((0 < length spans.now)
+        × BeginsFrom (slice_index_or spans.now 0 (record { first = 0; last = 0 })).first others.now) }
 {
     spans.len() > 0 && (others.is_empty() || spans[0].first <= others[0].first)
 }
@@ -27,7 +29,8 @@ fn begins_first(spans: &[Span], others: &[Span]) -> bool
 impl<'a> Pair<'a> {
     /// Takes the span that begins first.
     fn next(&mut self) -> Option<Span>
-        ensures { MatchOption result ((self.old.left.now ≡ []) × (self.old.right.now ≡ [])) (λ span. TakesFirst self.old.left.now self.old.right.now span self.new.left.now self.new.right.now) }
+        ensures { MatchOption result ((self.old.left.now ≡ []) × (self.old.right.now ≡ []))
+            (λ span. TakesFirst self.old.left.now self.old.right.now span self.new.left.now self.new.right.now) }
     {
         if begins_first(self.left, self.right) {
             let span = self.left[0];
@@ -57,7 +60,8 @@ fn join(spans: &mut SpanList, next: Span) -> Result<(), NoMemory>
     requires full { next.first ≤ next.last }
     ensures maximal { AreMaximal spans.new }
     ensures rising { OnOk result (last_first spans.new ≤ next.first) }
-    ensures members { OnOk result ((line : ℕ) → has_line (flat_map span_lines spans.new) line ≡ (has_line (flat_map span_lines spans.old) line || has_line (span_lines next) line)) }
+    ensures members { OnOk result ((line : ℕ) → has_line (flat_map span_lines spans.new) line
+        ≡ (has_line (flat_map span_lines spans.old) line || has_line (span_lines next) line)) }
 {
     let held = spans.as_slice();
     let count = held.len();
@@ -76,7 +80,8 @@ pub(crate) fn merged(alloc: Global, left: &[Span], right: &[Span]) -> Result<Spa
     requires left { AreMaximal left.now }
     requires right { AreMaximal right.now }
     ensures maximal { IfOk result (λ spans. AreMaximal spans) }
-    ensures numbers { IfOk result (λ spans. flat_map span_lines spans ≡ union_of (flat_map span_lines left.now) (flat_map span_lines right.now)) }
+    ensures numbers { IfOk result (λ spans. flat_map span_lines spans
+        ≡ union_of (flat_map span_lines left.now) (flat_map span_lines right.now)) }
 {
     let mut spans = SpanList::new(alloc);
     let mut pair = Pair { left, right };

@@ -6,7 +6,8 @@ use crate::mark::Mark;
 use crate::splicing::{is_taken_away, line_behind};
 use std::marker::Model;
 
-/// Reads the marks of a source one by one, and takes no memory. Contracts see it as the list of the marks that are left.
+/// Reads the marks of a source one by one, and takes no memory. Contracts see it as the list of the marks that are
+/// left.
 #[derive(Drop)]
 pub struct Marker<'a> {
     source: &'a [u8],

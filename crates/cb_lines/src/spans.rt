@@ -1,5 +1,6 @@
 //! Maximal runs of consecutive lines, rising.
-ghost use Rattle.std.specs.Prelude.{◌≡◌, ◌+◌, ◌-◌, ◌<◌, ◌≤◌, ◌↔◌, ◌++◌, ◌∷◌, [], ℕ, false, length, slice_index_or, OnOk, IsTrue};
+ghost use Rattle.std.specs.Prelude.{◌≡◌, ◌+◌, ◌-◌, ◌<◌, ◌≤◌, ◌↔◌, ◌++◌};
+ghost use Rattle.std.specs.Prelude.{◌∷◌, [], ℕ, false, length, slice_index_or, OnOk, IsTrue};
 ghost use Rattle.cb_lines.specs.declared.line_set.Span.{Span};
 ghost use Rattle.cb_lines.specs.Lines.{with_line, union_of, span_lines, AreMaximal};
 ghost use Rattle.std.specs.List.{flat_map, range_with_len};
@@ -13,7 +14,8 @@ pub(crate) fn count_before(spans: &[Span], line: u32) -> usize
     requires { AreMaximal spans.now }
     ensures within { result ≤ length spans.now }
     ensures before { (k : ℕ) (d : Span) → k < result → (slice_index_or spans.now k d).last < line }
-    ensures behind { (k : ℕ) (d : Span) → result ≤ k → k < length spans.now → line ≤ (slice_index_or spans.now k d).last }
+    ensures behind { (k : ℕ) (d : Span) → result ≤ k → k < length spans.now
+        → line ≤ (slice_index_or spans.now k d).last }
 {
     let count = spans.len();
     if count > 0 && spans[count - 1].last < line {
@@ -27,14 +29,16 @@ pub(crate) fn count_before(spans: &[Span], line: u32) -> usize
 
 /// Whether a span at a place begins no later than a line.
 pub(crate) fn begins_by(spans: &[Span], at: usize, line: u32) -> bool
-    ensures { IsTrue result ↔ ((at < length spans.now) × (slice_index_or spans.now at (record { first = 0; last = 0 })).first ≤ line) }
+    ensures { IsTrue result ↔ ((at < length spans.now)
+        × (slice_index_or spans.now at (record { first = 0; last = 0 })).first ≤ line) }
 {
     at < spans.len() && spans[at].first <= line
 }
 
 /// Whether the span at a place begins directly behind a line.
 fn begins_directly_behind(spans: &[Span], at: usize, line: u32) -> bool
-    ensures { IsTrue result ↔ ((at < length spans.now) × (slice_index_or spans.now at (record { first = 0; last = 0 })).first ≡ line + 1) }
+    ensures { IsTrue result ↔ ((at < length spans.now)
+        × (slice_index_or spans.now at (record { first = 0; last = 0 })).first ≡ line + 1) }
 {
     at < spans.len() && line < spans[at].first && spans[at].first - line == 1
 }
@@ -42,12 +46,14 @@ fn begins_directly_behind(spans: &[Span], at: usize, line: u32) -> bool
 /// Whether the span before a place ends directly before a line.
 fn ends_directly_before(spans: &[Span], at: usize, line: u32) -> bool
     requires { at ≤ length spans.now }
-    ensures { IsTrue result ↔ ((0 < at) × line ≡ (slice_index_or spans.now (at - 1) (record { first = 0; last = 0 })).last + 1) }
+    ensures { IsTrue result ↔ ((0 < at) × line
+        ≡ (slice_index_or spans.now (at - 1) (record { first = 0; last = 0 })).last + 1) }
 {
     at > 0 && spans[at - 1].last < line && line - spans[at - 1].last == 1
 }
 
-/// Takes a line into the last of the spans, where that span holds it or ends directly before it, and tells whether it did.
+/// Takes a line into the last of the spans, where that span holds it or ends directly before it, and tells whether it
+/// did.
 #[inline]
 fn lengthen(spans: &mut SpanList, line: u32) -> bool
     requires { AreMaximal spans.old }
@@ -102,7 +108,8 @@ fn lengthen_from(spans: &mut SpanList, from: u32, line: u32) -> bool
     requires maximal { AreMaximal spans.old }
     requires rising { from ≤ line }
     ensures maximal { AreMaximal spans.new }
-    ensures numbers { IsTrue result → flat_map span_lines spans.new ≡ union_of (range_with_len (from + 1) (line - from)) (flat_map span_lines spans.old) }
+    ensures numbers { IsTrue result → flat_map span_lines spans.new
+        ≡ union_of (range_with_len (from + 1) (line - from)) (flat_map span_lines spans.old) }
     ensures kept { result ≡ false → spans.new ≡ spans.old }
 {
     let held = spans.as_slice();
@@ -125,7 +132,8 @@ fn add_lines(spans: &mut SpanList, from: u32, line: u32) -> Result<(), NoMemory>
     requires maximal { AreMaximal spans.old }
     requires rising { from ≤ line }
     ensures maximal { AreMaximal spans.new }
-    ensures numbers { OnOk result (flat_map span_lines spans.new ≡ union_of (range_with_len (from + 1) (line - from)) (flat_map span_lines spans.old)) }
+    ensures numbers { OnOk result (flat_map span_lines spans.new
+        ≡ union_of (range_with_len (from + 1) (line - from)) (flat_map span_lines spans.old)) }
 {
     'lines: for next in u64::from(from) + 1..u64::from(line) + 1 {
         add_line(spans, next as u32)?;
@@ -138,7 +146,8 @@ fn add_lines(spans: &mut SpanList, from: u32, line: u32) -> Result<(), NoMemory>
 pub(crate) fn add_span(spans: &mut SpanList, span: Span) -> Result<(), NoMemory>
     requires { AreMaximal spans.old }
     ensures maximal { AreMaximal spans.new }
-    ensures numbers { OnOk result (flat_map span_lines spans.new ≡ union_of (span_lines span) (flat_map span_lines spans.old)) }
+    ensures numbers { OnOk result (flat_map span_lines spans.new
+        ≡ union_of (span_lines span) (flat_map span_lines spans.old)) }
 {
     let Span { first, last } = span;
     if first > last {
@@ -151,7 +160,8 @@ pub(crate) fn add_span(spans: &mut SpanList, span: Span) -> Result<(), NoMemory>
     add_lines(spans, first, last)
 }
 
-/// Adds a line to maximal spans, the last of which does not reach it. It stays out of the way of the calls that lengthen that one.
+/// Adds a line to maximal spans, the last of which does not reach it. It stays out of the way of the calls that
+/// lengthen that one.
 #[inline(never)]
 fn add_apart(spans: &mut SpanList, line: u32) -> Result<(), NoMemory>
     requires { AreMaximal spans.old }

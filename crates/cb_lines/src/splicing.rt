@@ -1,7 +1,9 @@
 //! From a source to its marks.
-ghost use Rattle.std.specs.Prelude.{◌≡◌, ◌||◌, ◌<◌, ◌≤◌, ◌+◌, ◌-◌, ◌^◌, ℕ, true, false, min, if◌then◌else◌, length, IfOk};
+ghost use Rattle.std.specs.Prelude.{◌≡◌, ◌||◌, ◌<◌, ◌≤◌, ◌+◌, ◌-◌, ◌^◌};
+ghost use Rattle.std.specs.Prelude.{ℕ, true, false, min, if◌then◌else◌, length, IfOk};
 ghost use Rattle.cb_lines.specs.inner.Held.{is_special};
-ghost use Rattle.cb_lines.specs.Marks.{marks_of, byte_at, begins_line_end, is_line_return, is_splice, is_deleted, is_line_feed};
+ghost use Rattle.cb_lines.specs.Marks.{marks_of, byte_at, begins_line_end};
+ghost use Rattle.cb_lines.specs.Marks.{is_line_return, is_splice, is_deleted, is_line_feed};
 
 use crate::lanes::candidates;
 use crate::mark::Marks;
@@ -94,12 +96,13 @@ fn is_cut(source: &[u8], at: usize) -> bool
     is_return_of_line_end(source, at) || is_spliced_backslash(source, at)
 }
 
-/// A position from one on, before which no CR of a line end and no backslash before a line end stands from there on; the length
-/// only where there is none. A source full of backslashes takes no more time than another one.
+/// A position from one on, before which no CR of a line end and no backslash before a line end stands from there on;
+/// the length only where there is none. A source full of backslashes takes no more time than another one.
 fn candidate_from(source: &[u8], from: usize) -> usize
     requires { from ≤ length source.now }
     ensures within { (from ≤ result) × (result ≤ length source.now) }
-    ensures stays { (k : ℕ) → from ≤ k → k < result → (is_line_return source.now k ≡ false) × (is_splice source.now k ≡ false) }
+    ensures stays { (k : ℕ) → from ≤ k → k < result → (is_line_return source.now k ≡ false)
+        × (is_splice source.now k ≡ false) }
 {
     let mut at = from;
     'vectors: while source.len() - at > LANES {
@@ -112,13 +115,15 @@ fn candidate_from(source: &[u8], from: usize) -> usize
     special_from(source, at)
 }
 
-/// The first position from one on at which the CR of a line end or a backslash before a line end stands; the length where there is
-/// none.
+/// The first position from one on at which the CR of a line end or a backslash before a line end stands; the length
+/// where there is none.
 fn cut_from(source: &[u8], from: usize) -> usize
     requires { from ≤ length source.now }
     ensures within { (from ≤ result) × (result ≤ length source.now) }
-    ensures stays { (k : ℕ) → from ≤ k → k < result → (is_line_return source.now k ≡ false) × (is_splice source.now k ≡ false) }
-    ensures cut { result < length source.now → is_line_return source.now result ≡ false → is_splice source.now result ≡ true }
+    ensures stays { (k : ℕ) → from ≤ k → k < result → (is_line_return source.now k ≡ false)
+        × (is_splice source.now k ≡ false) }
+    ensures cut { result < length source.now → is_line_return source.now result ≡ false
+        → is_splice source.now result ≡ true }
 {
     let mut at = candidate_from(source, from);
     'candidates: while at < source.len() {
@@ -150,8 +155,8 @@ fn behind_line_end(source: &[u8], at: usize) -> usize
     }
 }
 
-/// The marks of a source: its bytes without splices and without the CR of each line end, with their lines. A source without
-/// either is lent and not copied. Its one error is out of memory.
+/// The marks of a source: its bytes without splices and without the CR of each line end, with their lines. A source
+/// without either is lent and not copied. Its one error is out of memory.
 pub fn marks(alloc: Global, source: &[u8]) -> Result<Marks<'_>, NoMemory>
     ensures { IfOk result (λ m. m ≡ marks_of source.now) }
 {

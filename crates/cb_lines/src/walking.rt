@@ -1,5 +1,6 @@
 //! A walk over the marks of a source.
-ghost use Rattle.std.specs.Prelude.{◌≡◌, ◌≢◌, ◌+◌, ◌-◌, ◌^◌, ◌<◌, ◌≤◌, ◌↔◌, ℕ, false, List, length, slice_index, take, drop, min, if◌then◌else◌, OnOk, IsTrue};
+ghost use Rattle.std.specs.Prelude.{◌≡◌, ◌≢◌, ◌+◌, ◌-◌, ◌^◌, ◌<◌, ◌≤◌, ◌↔◌, ℕ};
+ghost use Rattle.std.specs.Prelude.{false, List, length, slice_index, take, drop, min, if◌then◌else◌, OnOk, IsTrue};
 ghost use Rattle.cb_lines.specs.inner.Held.{marks_held, feeds, passed, Rises};
 ghost use Rattle.cb_lines.specs.Marks.{bytes_of, first_line, is_line_feed};
 ghost use Rattle.cb_lines.specs.Lines.{with_line, with_lines, StandOn};
@@ -78,17 +79,19 @@ impl<'a> Walk<'a> {
         self.line = line;
     }
 
-    /// The bytes of the marks that are left before the next splice: at least one, if a mark is left. Those up to the first LF,
-    /// this among them, stand on the line of the first one. A mark that is left behind them stands at least a line further than
-    /// their last byte leads to, or on the last line that has a number.
+    /// The bytes of the marks that are left before the next splice: at least one, if a mark is left. Those up to the
+    /// first LF, this among them, stand on the line of the first one. A mark that is left behind them stands at least
+    /// a line further than their last byte leads to, or on the last line that has a number.
     pub fn row(&self) -> &'a [u8]
         ensures some { 0 < length self.now → 0 < length result.now }
         ensures within { length result.now ≤ length self.now }
         ensures front { result.now ≡ take (length result.now) (bytes_of self.now) }
-        ensures one_line { (count : ℕ) → count ≤ length result.now → ((k : ℕ) → k + 1 < count → is_line_feed (slice_index result.now k) ≡ false)
+        ensures one_line { (count : ℕ) → count ≤ length result.now → ((k : ℕ) → k + 1 < count
+            → is_line_feed (slice_index result.now k) ≡ false)
             → StandOn (first_line self.now) (take count self.now) }
         ensures whole { (count : ℕ) → length result.now ≡ count + 1 → count + 1 < length self.now
-            → min (2 ^ 32 - 1) (first_line (drop count self.now) + (if is_line_feed (slice_index result.now count) then 1 else 0) + 1) ≤ first_line (drop (count + 1) self.now) }
+            → min (2 ^ 32 - 1) (first_line (drop count self.now)
+            + (if is_line_feed (slice_index result.now count) then 1 else 0) + 1) ≤ first_line (drop (count + 1) self.now) }
     {
         let len = self.bytes.len();
         if len == 0 {
@@ -114,8 +117,8 @@ impl<'a> Walk<'a> {
         self.line = line;
     }
 
-    /// Goes past marks and adds their lines to a set. Its one error is out of memory, after which both may be used on, and
-    /// no more is said of them.
+    /// Goes past marks and adds their lines to a set. Its one error is out of memory, after which both may be used on,
+    /// and no more is said of them.
     pub fn pass_counted(&mut self, count: usize, lines: &mut Lines) -> Result<(), NoMemory>
         requires { count ≤ length self.old }
         ensures passed { OnOk result (self.new ≡ drop count self.old) }
@@ -131,8 +134,8 @@ impl<'a> Walk<'a> {
         Ok(())
     }
 
-    /// Goes past marks of which none but the last is an LF, and adds their lines to a set, with a look at splices alone. Its one
-    /// error is out of memory, after which both may be used on, and no more is said of them.
+    /// Goes past marks of which none but the last is an LF, and adds their lines to a set, with a look at splices
+    /// alone. Its one error is out of memory, after which both may be used on, and no more is said of them.
     pub fn pass_row_counted(&mut self, count: usize, lines: &mut Lines) -> Result<(), NoMemory>
         requires within { count ≤ length self.old }
         requires plain { (k : ℕ) → k + 1 < count → is_line_feed (slice_index (bytes_of self.old) k) ≡ false }
@@ -168,14 +171,15 @@ impl<'a> Walk<'a> {
         Ok(())
     }
 
-    /// How many of the first marks that are left stand before the next splice, up to a number of marks of which none but the last
-    /// is an LF.
+    /// How many of the first marks that are left stand before the next splice, up to a number of marks of which none
+    /// but the last is an LF.
     fn plain_row_len(&self, most: usize) -> usize
         requires full { 0 < most }
         requires within { most ≤ length self.now }
         requires plain { (k : ℕ) → k + 1 < most → is_line_feed (slice_index (bytes_of self.now) k) ≡ false }
         ensures within { (0 < result) × (result ≤ most) }
-        ensures one_line { (set : List ℕ) → with_lines (take result self.now) set ≡ with_line (first_line self.now) set }
+        ensures one_line { (set : List ℕ) → with_lines (take result self.now) set
+            ≡ with_line (first_line self.now) set }
     {
         marks_to_splice(self.splices, self.at, most)
     }
@@ -186,7 +190,8 @@ impl<'a> Walk<'a> {
         requires within { most ≤ length self.now }
         ensures within { (0 < result) × (result ≤ most) }
         ensures plain { (k : ℕ) → k + 1 < result → is_line_feed (slice_index (bytes_of self.now) k) ≡ false }
-        ensures one_line { (set : List ℕ) → with_lines (take result self.now) set ≡ with_line (first_line self.now) set }
+        ensures one_line { (set : List ℕ) → with_lines (take result self.now) set
+            ≡ with_line (first_line self.now) set }
     {
         let reach = marks_to_splice(self.splices, self.at, most);
         let (ahead, _) = self.bytes.split_at(reach);

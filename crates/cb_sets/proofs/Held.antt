@@ -1,7 +1,7 @@
 -- Whether a set holds a platform, and the members of a set with one more and of two sets.
-use Rattle.std.proofs.Common.{◌≡◌, ◌≢◌, ℕ, ◌+◌, ◌-◌, ◌*◌, ◌%◌, ◌^◌, ◌<◌, ◌≤◌, max, Bool, true, false, ◌||◌, eqb, List, [], length, refl, sym, ap, ◌∙◌, subst, ◌⊎◌, inl, inr, arith}
+use Rattle.std.proofs.Common.{◌≡◌, ℕ, ◌-◌, ◌*◌, ◌%◌, ◌^◌, ◌<◌, ◌≤◌, max, Bool, false, ◌||◌, eqb, List, [], length, refl, sym, ap, ◌∙◌, subst, ◌⊎◌, inl, inr, arith}
 use Rattle.std.proofs.lemmas.Bool.{cases_eq, cases_lt, eq-eqb, ne_eqb}
-use Rattle.std.proofs.lemmas.Nat.{or_of_32, zero_from_ones, ones_le_self}
+use Rattle.std.proofs.lemmas.Nat.{or_of_32}
 use Rattle.std.proofs.lemmas.Nat.Bits.{bit_at_or, bit_at-lt, bit_at_set_same, bit_at_set_other}
 use Rattle.std.specs.Int.{bit_at, w32}
 use Rattle.std.specs.Int.RustNames.{bit_or, count_ones}

@@ -1,5 +1,5 @@
 -- Rows with lines more, by the ranks of their sets.
-use Rattle.std.proofs.Common.{◌≡◌, ℕ, ◌+◌, ◌<◌, ◌≤◌, true, false, Bool, IsTrue, ◌↔◌, cond, eqb, ltb, List, [], ◌∷◌, ◌++◌, length, get_or, set, map, refl, sym, ap, ◌∙◌, subst, suc, zero, inl, inr, arith}
+use Rattle.std.proofs.Common.{◌≡◌, ℕ, ◌+◌, ◌<◌, ◌≤◌, true, false, IsTrue, ◌↔◌, cond, eqb, ltb, List, [], ◌∷◌, length, get_or, set, map, refl, sym, ap, ◌∙◌, subst, suc, zero, inl, inr, arith}
 use Rattle.std.specs.List.{insert}
 use Rattle.std.proofs.lemmas.Bool.{cases_order, le-ltb, lt-ltb, eq-eqb, ne_eqb, false≢true}
 use Rattle.std.proofs.lemmas.List.{get_or_default}

@@ -1,12 +1,14 @@
 -- Sets of platforms, as the rising lists of their numbers.
-use Rattle.std.specs.Prelude.{ℕ, zero, suc, ◌-◌, ◌^◌, ◌%◌, ◌==◌, ◌&&◌, ◌||◌, Bool, true, false, nat_lt, nat_le, if◌then◌else◌, List, [], ◌∷◌, length}
+use Rattle.std.specs.Prelude.{ℕ, zero, suc, ◌-◌, ◌^◌, ◌%◌, ◌==◌, ◌&&◌, ◌||◌}
+use Rattle.std.specs.Prelude.{Bool, true, false, nat_lt, nat_le, if◌then◌else◌, List, [], ◌∷◌, length}
 use Rattle.cb_sets.specs.declared.platform_set.PlatformSet.{PlatformSet}
 
 -- the greatest number that a platform may have (own)
 abbrev pub platform_limit : ℕ
 platform_limit = 32
 
--- the platforms of the lowest bits of a number: platform p has bit 32 - p, so that the first platform has the highest bit (own)
+-- the platforms of the lowest bits of a number: platform p has bit 32 - p, so that the first platform has the highest
+-- bit (own)
 unfoldable pub members_below : ℕ → ℕ → List ℕ
 members_below zero bits = []
 members_below (suc k) bits =

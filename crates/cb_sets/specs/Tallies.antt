@@ -6,21 +6,23 @@ use Rattle.cb_lines.specs.Lines.{has_line}
 use Rattle.cb_paths.specs.Grid.{share, mean}
 use Rattle.cb_sets.specs.Sets.{precedes}
 
--- a set of platforms, and how many lines just these platforms use
+-- a set of platforms, and how many lines just these platforms use (own)
 pub record SetLines : Type 0 where
   pub members : List ℕ
   pub lines : ℕ
 
--- a setmap: the number of platforms that it is made for, and the sets with a line in the order of reports
+-- a setmap: the number of platforms that it is made for, and the sets with a line in the order of reports (own)
 pub record Tally : Type 0 where
   pub platforms : ℕ
   pub rows : List SetLines
 
--- the platforms that use a line, by the lists of the lines that each of them uses; the first list is that of a platform with this number (own)
+-- the platforms that use a line, by the lists of the lines that each of them uses; the first list is that of a
+-- platform with this number (own)
 abbrev pub users_from : ℕ → List (List ℕ) → ℕ → List ℕ
 users_from platform [] line = []
 users_from platform (used ∷ others) line =
-    if has_line used line then platform ∷ users_from (platform + 1) others line else users_from (platform + 1) others line
+    if has_line used line then platform ∷ users_from (platform + 1) others line
+    else users_from (platform + 1) others line
 
 -- the platforms that use a line; the first list is that of platform 1 (own)
 abbrev pub users : List (List ℕ) → ℕ → List ℕ
@@ -31,7 +33,8 @@ abbrev pub with_count : List ℕ → ℕ → List SetLines → List SetLines
 with_count set lines [] = record { members = set; lines = lines } ∷ []
 with_count set lines (r ∷ rs) =
     if bytes_eq set r.members then record { members = r.members; lines = r.lines + lines } ∷ rs
-    else (if precedes set r.members then record { members = set; lines = lines } ∷ r ∷ rs else r ∷ with_count set lines rs)
+    else (if precedes set r.members then record { members = set; lines = lines } ∷ r ∷ rs
+    else r ∷ with_count set lines rs)
 
 -- rows with these lines more, one after another, each for the set of the platforms that use it (own)
 abbrev pub with_counted : List (List ℕ) → List ℕ → List SetLines → List SetLines
@@ -50,10 +53,11 @@ lines_in test row = if test row.members then row.lines else 0
 abbrev pub lines_where : (List ℕ → Bool) → List SetLines → ℕ
 lines_where test rows = sum_by (lines_in test) rows
 
--- any set, and one that is not empty (own)
+-- any set (own)
 abbrev pub is_any : List ℕ → Bool
 is_any set = true
 
+-- a set that is not empty (own)
 abbrev pub is_used : List ℕ → Bool
 is_used [] = false
 is_used (p ∷ ps) = true
@@ -79,4 +83,5 @@ lines_of platform map = lines_where (λ set. has_line set platform) map.rows
 -- the mean over all platforms of the share of the lines that each uses (own)
 abbrev pub average_of : Tally → ℕ
 average_of map =
-    mean (sum_by (λ platform. share (lines_of platform map) (lines_where is_any map.rows)) (range_with_len 1 map.platforms)) map.platforms
+    mean (sum_by (λ platform. share (lines_of platform map) (lines_where is_any map.rows))
+    (range_with_len 1 map.platforms)) map.platforms

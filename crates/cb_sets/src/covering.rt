@@ -8,7 +8,8 @@ ghost use Rattle.cb_sets.specs.Tallies.{lines_where, is_any, lines_of, coverage_
 use crate::setmap::Setmap;
 use cb_paths::{mean, share};
 
-/// The lines that some platform uses, as a share of all lines in units of the grid (10^-12); none exactly where there is no line.
+/// The lines that some platform uses, as a share of all lines in units of the grid (10^-12); none exactly where there
+/// is no line.
 pub fn coverage(map: &Setmap) -> Option<u64>
     ensures value { SomeIff result (0 < lines_where is_any map.now.rows) (coverage_of map.now) }
     ensures within { IfSome result (λ value. value ≤ units) }
@@ -35,10 +36,11 @@ fn sum_of_shares(map: &Setmap, platforms: u32, total: u64) -> u64
     sum
 }
 
-/// The mean over all platforms of the share of the lines that each uses, in units of the grid (10^-12); none exactly where there
-/// is no line or no platform.
+/// The mean over all platforms of the share of the lines that each uses, in units of the grid (10^-12); none exactly
+/// where there is no line or no platform.
 pub fn average(map: &Setmap) -> Option<u64>
-    ensures value { SomeIff result ((0 < lines_where is_any map.now.rows) × (0 < map.now.platforms)) (average_of map.now) }
+    ensures value { SomeIff result ((0 < lines_where is_any map.now.rows)
+        × (0 < map.now.platforms)) (average_of map.now) }
     ensures within { IfSome result (λ value. value ≤ units) }
 {
     let total = map.total();

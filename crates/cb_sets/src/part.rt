@@ -25,8 +25,8 @@ fn with_user(set: PlatformSet, platform: u32, is_user: bool) -> PlatformSet
     if is_user { set.with(platform) } else { set }
 }
 
-/// Lines from one on, up to a last one, that the same platforms use; the first of the sets is that of platform 1. For each
-/// platform it takes one binary search.
+/// Lines from one on, up to a last one, that the same platforms use; the first of the sets is that of platform 1. For
+/// each platform it takes one binary search.
 pub(crate) fn part_from(used: &[Lines], first: u32, last: u32) -> Part
     requires platforms { length used.now ≤ platform_limit }
     requires rising { first ≤ last }

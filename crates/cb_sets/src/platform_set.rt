@@ -14,7 +14,8 @@ pub const PLATFORM_LIMIT: u32 = 32;
 /// A set of platforms, each a number from 1 to 32.
 #[derive(Clone, Copy, Debug, PartialEq, Eq)]
 pub struct PlatformSet {
-    /// Platform p has bit 32 - p, so that of two sets with as many members the one with more here stands first in reports.
+    /// Platform p has bit 32 - p, so that of two sets with as many members the one with more here stands first in
+    /// reports.
     bits: u32,
 }
 
@@ -79,8 +80,8 @@ impl PlatformSet {
     }
 }
 
-/// The members of a set are those of the first platforms that it holds, in their order, if it holds no others; and none has a
-/// number above 32.
+/// The members of a set are those of the first platforms that it holds, in their order, if it holds no others; and
+/// none has a number above 32.
 pub fn listed_members()
     ensures listed { (set : PlatformSet) (count : ℕ) → All (λ platform. platform ≤ count) (members set)
         → members set ≡ filter (has_line (members set)) (range_with_len 1 count) }

@@ -18,14 +18,16 @@ fn place_of(rows: &[Row], rank: u64) -> usize
     requires { Rise 0 rows.now }
     ensures within { result ≤ length rows.now }
     ensures before { (k : ℕ) (d : Row) → k < result → rank_of (slice_index_or rows.now k d).set < rank }
-    ensures behind { (k : ℕ) (d : Row) → result ≤ k → k < length rows.now → rank ≤ rank_of (slice_index_or rows.now k d).set }
+    ensures behind { (k : ℕ) (d : Row) → result ≤ k → k < length rows.now
+        → rank ≤ rank_of (slice_index_or rows.now k d).set }
 {
     rows.partition_point(|row| row.set.rank() < rank)
 }
 
 /// Whether the row at a place has a rank.
 fn has_rank(rows: &[Row], at: usize, rank: u64) -> bool
-    ensures { IsTrue result ↔ ((at < length rows.now) × ((d : Row) → rank_of (slice_index_or rows.now at d).set ≡ rank)) }
+    ensures { IsTrue result ↔ ((at < length rows.now) × ((d : Row) → rank_of (slice_index_or rows.now at d).set
+        ≡ rank)) }
 {
     at < rows.len() && rows[at].set.rank() == rank
 }
@@ -46,8 +48,8 @@ fn add_count(rows: &mut Vec<Row>, set: PlatformSet, lines: u64) -> Result<(), No
     Ok(())
 }
 
-/// Adds the lines of a span to rows, each for the set of the platforms that use it. After its one error, out of memory, no more
-/// is said of them.
+/// Adds the lines of a span to rows, each for the set of the platforms that use it. After its one error, out of
+/// memory, no more is said of them.
 pub(crate) fn add_span(rows: &mut Vec<Row>, span: Span, used: &[Lines]) -> Result<(), NoMemory>
     requires rising { Rise 0 rows.old.items }
     requires full { span.first ≤ span.last }

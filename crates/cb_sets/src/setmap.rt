@@ -1,5 +1,6 @@
 //! Lines counted by the set of platforms that use them.
-ghost use Rattle.std.specs.Prelude.{◌≡◌, ◌+◌, ◌^◌, ◌<◌, ◌≤◌, ◌&&◌, ◌||◌, ℕ, Bool, List, [], length, map, count_by, IfOk, OnOk, OnErr};
+ghost use Rattle.std.specs.Prelude.{◌≡◌, ◌+◌, ◌^◌, ◌<◌, ◌≤◌, ◌&&◌, ◌||◌, ℕ};
+ghost use Rattle.std.specs.Prelude.{Bool, List, [], length, map, count_by, IfOk, OnOk, OnErr};
 ghost use Rattle.std.specs.Str.{bytes_eq};
 ghost use Rattle.cb_lines.specs.Lines.{has_line};
 ghost use Rattle.cb_sets.specs.Sets.{members, platform_limit};
@@ -16,8 +17,8 @@ use cb_paths::NoMemory;
 use std::alloc::Global;
 use std::marker::Model;
 
-/// For each set of platforms how many lines just these platforms use. Contracts see the number of platforms, and the sets that
-/// have a line in the order of reports.
+/// For each set of platforms how many lines just these platforms use. Contracts see the number of platforms, and the
+/// sets that have a line in the order of reports.
 #[derive(Drop)]
 pub struct Setmap {
     alloc: Global,
@@ -36,7 +37,8 @@ impl Model for Setmap {
 
     ghost view = { λ m. record { platforms = m.platforms; rows = map seen m.rows.items } };
 
-    ghost invariant = { λ m. (m.platforms ≤ platform_limit) × Rise 0 m.rows.items × (lines_where is_any (map seen m.rows.items) < 2 ^ 32) × All (IsRow m.platforms) (map seen m.rows.items) };
+    ghost invariant = { λ m. (m.platforms ≤ platform_limit) × Rise 0 m.rows.items
+        × (lines_where is_any (map seen m.rows.items) < 2 ^ 32) × All (IsRow m.platforms) (map seen m.rows.items) };
 }
 
 /// Rows with the lines of a file more, each for the set of the platforms that use it.
@@ -71,9 +73,9 @@ impl Setmap {
         }
     }
 
-    /// Adds a file: the lines of it that are counted, and of these the lines that each platform uses, platform 1 first. A line
-    /// that is not counted does not matter. The time grows with the spans and the platforms, not with the lines. Its one error
-    /// is out of memory, and then nothing has changed.
+    /// Adds a file: the lines of it that are counted, and of these the lines that each platform uses, platform 1
+    /// first. A line that is not counted does not matter. The time grows with the spans and the platforms, not with
+    /// the lines. Its one error is out of memory, and then nothing has changed.
     pub fn add_file(&mut self, counted: &Lines, used: &[Lines]) -> Result<(), NoMemory>
         requires platforms { length used.now ≡ self.old.platforms }
         requires fits { lines_where is_any self.old.rows + length counted.now < 2 ^ 32 }
@@ -94,7 +96,8 @@ impl Setmap {
         self.platforms
     }
 
-    /// The sets that have a line, each with its lines, in the order of reports: by the number of members, then by their list.
+    /// The sets that have a line, each with its lines, in the order of reports: by the number of members, then by
+    /// their list.
     pub fn rows(&self) -> &[Row]
         ensures rows { map seen result.now ≡ self.now.rows }
         ensures order { AreInOrder self.now.rows }

@@ -201,8 +201,8 @@ fn setmaps_are_those_of_their_files(rt: HostRuntime) -> Result<(), Fail> {
     Ok(())
 }
 
-/// The total, what some platform uses, what a platform uses, and what two use both and either, of 32 platforms: platform p uses
-/// the lines from p on, up to 40, and line 50 is used by none.
+/// The total, what some platform uses, what a platform uses, and what two use both and either, of 32 platforms:
+/// platform p uses the lines from p on, up to 40, and line 50 is used by none.
 fn figures(alloc: Global) -> Result<[u64; 8], NoMemory> {
     let counted = lines_of(alloc, &[(1, 40), (50, 50)])?;
     let mut used = Vec::new(alloc);

@@ -21,7 +21,8 @@ abbrev pub feeds : List ℕ → ℕ
 feeds [] = 0
 feeds (b ∷ bs) = (if is_line_feed b then 1 else 0) + feeds bs
 
--- the marks of bytes, the first of which is the mark `at`; it stands on the line, but for the splices that it passes (own)
+-- the marks of bytes, the first of which is the mark `at`; it stands on the line, but for the splices that it passes
+-- (own)
 abbrev pub marks_held : ℕ → ℕ → List ℕ → List ℕ → List Mark
 marks_held line at [] splices = []
 marks_held line at (b ∷ bs) splices =

@@ -1,4 +1,4 @@
-use Rattle.std.proofs.Common.{◌≡◌, ◌≤◌, ◌+◌, ℕ, arith}
+use Rattle.std.proofs.Common.{◌+◌, arith}
 use Rattle.cb_sets.specs.Sets.{members}
 use Rattle.cb_sets.proofs.Users.{user_added}
 use Rattle.cb_sets.proofs.part.part_from.Goals as goal

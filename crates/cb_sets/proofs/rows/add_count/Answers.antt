@@ -1,4 +1,4 @@
-use Rattle.std.proofs.Common.{◌≡◌, ℕ, ◌+◌, ◌<◌, ◌≤◌, ◌^◌, List, length, get_or, set, map, sym, ap, ◌∙◌, subst, arith}
+use Rattle.std.proofs.Common.{◌≡◌, ℕ, ◌+◌, ◌<◌, ◌≤◌, List, length, get_or, set, map, ap, subst, arith}
 use Rattle.cb_sets.specs.declared.row.Row.{Row}
 use Rattle.cb_sets.specs.Tallies.{lines_where, is_any}
 use Rattle.cb_sets.specs.inner.Rows.{seen}

@@ -1,4 +1,4 @@
-use Rattle.std.proofs.Common.{map, arith}
+use Rattle.std.proofs.Common.{map}
 use Rattle.cb_lines.specs.declared.line_set.Span.{Span}
 use Rattle.cb_sets.specs.inner.Rows.{seen}
 use Rattle.cb_sets.proofs.Tallied.{spans_full, span_fits, span_added}

@@ -1,9 +1,8 @@
-use Rattle.std.proofs.Common.{◌≡◌, ℕ, eqb, List, sym, ap, ◌∙◌}
-use Rattle.std.specs.Str.{bytes_eq}
+use Rattle.std.proofs.Common.{ℕ, eqb, sym, ap, ◌∙◌}
 use Rattle.cb_sets.specs.Sets.{members}
 use Rattle.cb_sets.specs.inner.Tests.{passes}
 use Rattle.cb_sets.specs.inner.Ranks.{rank_of}
-use Rattle.cb_sets.proofs.Orders.{same_by_rank, same_by_rank_turned}
+use Rattle.cb_sets.proofs.Orders.{same_by_rank_turned}
 use Rattle.cb_sets.proofs.counting.Test.is_passed.Goals as goal
 
 pub returns-in-Is : goal.returns-in-Is

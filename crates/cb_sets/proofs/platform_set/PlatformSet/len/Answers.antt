@@ -1,4 +1,4 @@
-use Rattle.std.proofs.Common.{◌≡◌, ℕ, ◌-◌, ◌^◌, ◌/◌, ◌<◌, eqb, refl, sym, ap, ◌∙◌, arith}
+use Rattle.std.proofs.Common.{◌<◌, arith}
 use Rattle.cb_sets.proofs.Held.{count_of}
 use Rattle.cb_sets.proofs.platform_set.PlatformSet.len.Goals as goal
 

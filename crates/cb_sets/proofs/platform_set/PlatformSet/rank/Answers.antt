@@ -1,5 +1,4 @@
-use Rattle.std.proofs.Common.{◌≡◌, ℕ, ◌%◌, ◌<◌, sym, ap, ◌∙◌, arith}
-use Rattle.cb_sets.proofs.Orders.{Known}
+use Rattle.std.proofs.Common.{◌<◌, arith}
 use Rattle.cb_sets.proofs.Held.{known_bits}
 use Rattle.cb_sets.proofs.platform_set.PlatformSet.rank.Goals as goal
 

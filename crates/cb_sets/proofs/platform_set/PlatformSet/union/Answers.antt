@@ -1,4 +1,4 @@
-use Rattle.std.proofs.Common.{◌≡◌, ℕ, ◌-◌, ◌^◌, ◌/◌, ◌<◌, eqb, refl, sym, ap, ◌∙◌, arith}
+use Rattle.std.proofs.Common.{◌<◌, refl, arith}
 use Rattle.cb_sets.proofs.Held.{union_is}
 use Rattle.cb_sets.proofs.platform_set.PlatformSet.union.Goals as goal
 

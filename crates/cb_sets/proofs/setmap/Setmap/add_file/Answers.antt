@@ -18,9 +18,12 @@ invariant_of-self c =
     omega (arith, ap (lines_where is_any) rows, all-with_counted c.args.used.now c.args.counted.now c.args.self.now.rows, c.requires.fits) in
     let few : length c.args.used.now ≤ c.self.inside.platforms = omega (arith, c.requires.platforms, ap (λ (t : Tally). t.platforms) c.self.view_is) in
     let old : All (IsRow c.self.inside.platforms) c.args.self.now.rows =
-    subst (λ (xs : List SetLines). All (IsRow c.self.inside.platforms) xs) (ap (λ (t : Tally). t.rows) c.self.view_is) c.self.invariant.3 in
-    (c.self.invariant.0, c.in_ok-self-inside.ensures.rising, small,
-    subst (λ (xs : List SetLines). All (IsRow c.self.inside.platforms) xs) (sym rows) (rows_with_counted c.self.inside.platforms c.args.used.now c.args.counted.now c.args.self.now.rows few old))
+    subst (λ (xs : List SetLines). All (IsRow c.self.inside.platforms) xs) (ap (λ (t : Tally). t.rows) c.self.view_is) c.self.invariant.3 in (
+      c.self.invariant.0,
+      c.in_ok-self-inside.ensures.rising,
+      small,
+      subst (λ (xs : List SetLines). All (IsRow c.self.inside.platforms) xs) (sym rows) (rows_with_counted c.self.inside.platforms c.args.used.now c.args.counted.now c.args.self.now.rows few old),
+    )
 
 pub returns-clause-counts : goal.returns-clause-counts
 returns-clause-counts c = λ test.

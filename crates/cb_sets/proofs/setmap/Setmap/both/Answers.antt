@@ -1,4 +1,4 @@
-use Rattle.std.proofs.Common.{◌≡◌, ℕ, ◌≤◌, ◌&&◌, List, map, ap, ◌∙◌, arith}
+use Rattle.std.proofs.Common.{◌≡◌, ◌&&◌, List, map, ap, ◌∙◌, arith}
 use Rattle.cb_lines.specs.Lines.{has_line}
 use Rattle.cb_sets.specs.declared.row.Row.{Row}
 use Rattle.cb_sets.specs.Tallies.{Tally, SetLines, lines_where}

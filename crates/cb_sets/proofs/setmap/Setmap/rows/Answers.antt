@@ -1,4 +1,4 @@
-use Rattle.std.proofs.Common.{subst, ap}
+use Rattle.std.proofs.Common.{subst}
 use Rattle.cb_sets.specs.Tallies.{Tally, AreInOrder}
 use Rattle.cb_sets.proofs.Placed.{in_order}
 use Rattle.cb_sets.proofs.setmap.Setmap.rows.Goals as goal
