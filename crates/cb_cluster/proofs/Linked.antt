@@ -1,9 +1,10 @@
 -- The pairs of platforms from one on, in order.
-use Rattle.std.proofs.Common.{◌≡◌, ℕ, ◌+◌, ◌-◌, ◌<◌, ◌≤◌, List, [], ◌∷◌, ◌++◌, length, map, get_or, drop, refl, sym, ap, ◌∙◌, subst, ◌⊎◌, inl, inr, zero, suc, arith, All}
+use Rattle.std.proofs.Common.{◌≡◌, ℕ, ◌+◌, ◌-◌, ◌*◌, ◌/◌, ◌<◌, ◌≤◌, List, [], ◌∷◌, ◌++◌, length, map, get_or, drop, refl, sym, ap, ◌∙◌, subst, ◌⊎◌, inl, inr, zero, suc, arith, All}
 use Rattle.std.specs.List.{flat_map, range_with_len}
 use Rattle.std.proofs.lemmas.Bool.{cases_lt}
-use Rattle.std.proofs.lemmas.List.{append-nil, append_assoc, drop_more, drop_all, length-drop}
+use Rattle.std.proofs.lemmas.List.{append-nil, append_assoc, drop_more, drop_all, length-drop, length-append, length-map}
 use Rattle.std.proofs.lemmas.List.Elements.{All-nil, All-push}
+use Rattle.std.proofs.lemmas.List.FromFn.{length-range_with_len}
 use Rattle.cb_diverge.specs.declared.fraction.Fraction.{Fraction}
 use Rattle.cb_cluster.specs.declared.link.Link.{Link}
 use Rattle.cb_cluster.specs.Links.{pairs_with, pairs_of, linked, links_of, IsPair}
@@ -125,3 +126,28 @@ linked-nil (p ∷ ps) = refl
 pub Goes-end : (count : ℕ) (pairs : List Fraction) (i left right : ℕ) (held : List Link) → length pairs ≤ i → Goes count pairs i left right held → held ≡ links_of count pairs
 Goes-end count pairs i left right held le g =
     sym (g.all ∙ ap (λ ds. held ++ linked (pairs_from count left right) ds) (drop_all i pairs le) ∙ ap (λ ls. held ++ ls) (linked-nil (pairs_from count left right)) ∙ append-nil held)
+
+squares : (n : ℕ) → n * (n - 1) + n * 2 ≡ suc n * n
+squares zero = refl
+squares (suc m) = let e : suc m - 1 ≡ m = omega arith in ap (λ k. suc m * k + suc m * 2) e ∙ omega arith
+
+twice : (a b n m : ℕ) → a ≡ n → b * 2 ≡ m → (a + b) * 2 ≡ m + n * 2
+twice a b n m e f = omega arith
+
+-- twice the pairs of the platforms from one on
+pairs-twice : (count left n : ℕ) → left + n ≡ count + 1 → length (flat_map (pairs_with count) (range_with_len left n)) * 2 ≡ n * (n - 1)
+pairs-twice count left zero h = refl
+pairs-twice count left (suc n) h =
+    let rest = flat_map (pairs_with count) (range_with_len (left + 1) n) in
+    let more : length rest * 2 ≡ n * (n - 1) = pairs-twice count (left + 1) n (omega arith) in
+    let first : length (pairs_with count left) ≡ n
+    = length-map (range_with_len (left + 1) (count - left)) (λ right. (left, right)) ∙ (length-range_with_len (left + 1) (count - left) ∙ omega arith) in
+    let all = length-append (pairs_with count left) rest in
+    let square : n * (n - 1) + n * 2 ≡ suc n * n = squares n in
+    let one : suc n - 1 ≡ n = omega arith in
+    ap (λ k. k * 2) all ∙ (twice (length (pairs_with count left)) (length rest) n (n * (n - 1)) first more ∙ (square ∙ ap (λ k. suc n * k) (sym one)))
+
+pub pairs-count : (count : ℕ) → length (pairs_of count) ≡ count * (count - 1) / 2
+pairs-count count =
+    let e : length (pairs_of count) * 2 ≡ count * (count - 1) = pairs-twice count 1 count (omega arith) in
+    omega (arith, e)

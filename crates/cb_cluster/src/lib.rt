@@ -13,7 +13,7 @@ mod merging;
 
 pub use laws::{heights_rise, one_clustering};
 pub use link::Link;
-pub use linking::links;
+pub use linking::{links, pair_count};
 pub use lists::{Classes, Members};
 pub use merge::Merge;
 pub use merge_list::Merges;

@@ -7,6 +7,14 @@ use cb_diverge::Fraction;
 use cb_paths::NoMemory;
 use std::alloc::Global;
 
+/// How many pairs so many platforms have.
+pub fn pair_count(count: u32) -> u64
+    ensures { result ≡ length (pairs_of count) }
+{
+    let count = u64::from(count);
+    count * count.saturating_sub(1) / 2
+}
+
 /// All pairs of so many platforms with their distances, which stand in the order (1, 2), (1, 3), .., (2, 3), and so on. Its
 /// one error is want of memory.
 pub fn links(alloc: Global, count: u32, pairs: &[Fraction]) -> Result<Vec<Link>, NoMemory>

@@ -1,0 +1,4 @@
+pub mod Growing
+pub mod Runs
+pub mod Cuts
+pub mod Sets

@@ -1,0 +1,10 @@
+pub mod Words
+pub mod Places
+pub mod Details
+pub mod Notes
+pub mod Duplicates
+pub mod Clustering
+pub mod Kinds
+pub mod Files
+pub mod Summary
+pub mod Reports

@@ -1,0 +1,25 @@
+//! The texts of reports, from their figures.
+#![tactic(auto)]
+
+mod clustering;
+mod details;
+mod duplicates;
+mod figures;
+mod files;
+mod kind;
+mod lists;
+mod names;
+mod notes;
+mod places;
+mod row_lists;
+mod report;
+mod rows;
+mod summary;
+mod text;
+
+pub use figures::Figures;
+pub use kind::Kind;
+pub use lists::{LineLists, TextLists};
+pub use report::{one_report, render};
+pub use row_lists::{AbsentRows, FileRows, IdleRows, NoteRows};
+pub use rows::{AbsentRow, FileRow, Idle, IdleRow, NoteRow};
