@@ -1,2 +1,6 @@
 pub mod Figures
 pub mod Names
+pub mod Header
+pub mod Reading
+pub mod Metrics
+pub mod Inner

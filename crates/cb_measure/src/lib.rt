@@ -3,5 +3,14 @@
 
 mod bad_csv;
 mod figure;
+mod header;
+mod laws;
+mod reading;
+mod records;
+mod row;
+mod rows;
 
 pub use bad_csv::{BadCsv, CsvFault};
+pub use laws::one_reading;
+pub use row::Row;
+pub use rows::{Rows, read};

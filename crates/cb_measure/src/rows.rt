@@ -1,0 +1,59 @@
+//! The measurements of a file.
+ghost use Rattle.std.specs.Prelude.{◌≡◌, ◌==◌, ℕ, length, IfOk, Err, Ok};
+ghost use Rattle.cb_measure.specs.Reading.{measurements};
+ghost use Rattle.cb_measure.specs.declared.bad_csv.BadCsv.{BadCsv};
+
+use crate::bad_csv::CsvFault;
+use crate::reading::read_rows;
+use crate::row::Row;
+use std::alloc::Global;
+use std::marker::Model;
+
+/// The measurements of a file, which contracts see as the list of its rows in their order.
+#[derive(Drop)]
+pub struct Rows {
+    pub(crate) rows: Vec<Row>,
+}
+
+impl Model for Rows {
+    ghost use Rattle.std.specs.Prelude.{List};
+    ghost use Rattle.cb_measure.specs.declared.row.Row.{Row};
+
+    ghost Value = { List Row };
+
+    ghost view = { λ r. r.rows.items };
+}
+
+impl Rows {
+    /// The rows in the order of the file.
+    pub fn as_slice(&self) -> &[Row]
+        ensures { result.now ≡ self.now }
+    {
+        self.rows.as_slice()
+    }
+
+    /// The number of rows.
+    pub fn len(&self) -> usize
+        ensures { result ≡ length self.now }
+    {
+        self.rows.len()
+    }
+
+    /// Whether there is no row.
+    pub fn is_empty(&self) -> bool
+        ensures { result ≡ (length self.now == 0) }
+    {
+        self.rows.is_empty()
+    }
+}
+
+/// Reads a file of measurements: CSV with a header, in which the columns `problem`, `platform`, `application` and `fom` stand in any order.
+/// It answers the rows of the file, or its first fault, or that memory ran out.
+pub fn read(alloc: Global, bytes: &[u8]) -> Result<Rows, CsvFault>
+    ensures rows { IfOk result (λ rows. measurements bytes.now ≡ Ok rows) }
+    ensures bad { (fault : BadCsv) → result ≡ Err (CsvFault.Bad fault) → measurements bytes.now ≡ Err fault }
+{
+    Ok(Rows {
+        rows: read_rows(alloc, bytes)?,
+    })
+}
