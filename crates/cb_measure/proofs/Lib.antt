@@ -1,3 +1,6 @@
 pub mod Spelled
 pub mod Consumed
 pub mod RowsRead
+pub mod NameLists
+pub mod Least
+pub mod Means

@@ -3,8 +3,12 @@
 
 mod bad_csv;
 mod figure;
+mod figures;
 mod header;
 mod laws;
+mod metrics;
+mod names;
+mod pace;
 mod reading;
 mod records;
 mod row;

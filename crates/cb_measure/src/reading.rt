@@ -1,11 +1,12 @@
 //! The rows of a file, or its first fault.
-ghost use Rattle.std.specs.Prelude.{◌≡◌, ◌++◌, ◌∷◌, ◌+◌, ◌<◌, ◌&&◌, ℕ, List, [], length, nat_le, Ok, Err, IfOk, OnOk};
+ghost use Rattle.std.specs.Prelude.{◌≡◌, ◌++◌, ◌∷◌, ◌+◌, ◌<◌, ◌≤◌, ◌&&◌, true, ℕ, List, [], length, nat_le, Ok, Err, IfOk, OnOk};
 ghost use Rattle.std.specs.Ordering.{nat_cmp};
 ghost use Rattle.std.specs.Cmp.Lexicographic.{slice_cmp};
 ghost use Rattle.std.specs.BTreeSet.{insert_key, keys};
 ghost use Rattle.csv.specs.Records.{fields_of};
 ghost use Rattle.cb_paths.specs.Names.{is_name};
 ghost use Rattle.cb_measure.specs.Names.{names_of};
+ghost use Rattle.cb_measure.specs.Inner.{is_small};
 ghost use Rattle.cb_measure.specs.Reading.{row_of_fields, row_of, platforms_in, measurements};
 ghost use Rattle.cb_measure.specs.declared.row.Row.{Row};
 ghost use Rattle.cb_measure.specs.declared.bad_csv.BadCsv.{BadCsv};
@@ -15,6 +16,7 @@ use crate::figure::figure;
 use crate::header::{Columns, columns_of};
 use crate::records::{field, next, opened};
 use crate::row::Row;
+use crate::rows::Rows;
 use cb_paths::{Bytes, NoMemory, is_name};
 use csv::ByteRecord;
 use std::alloc::Global;
@@ -59,6 +61,8 @@ fn row_of_fields(
         → row_of_fields before number problem.now platform.now application.now fom.now ≡ Ok row) }
     ensures met { IfOk result (λ row. (before : List Row) → keys platforms.old ≡ names_of (platforms_in before)
         → keys platforms.new ≡ names_of (platforms_in (before ++ row ∷ []))) }
+    ensures few { OnOk result (length (keys platforms.new) ≤ 64) }
+    ensures small { IfOk result (λ row. is_small row ≡ true) }
     ensures bad { (fault : BadCsv) → result ≡ Err (CsvFault.Bad fault) → (before : List Row) → keys platforms.old ≡ names_of (platforms_in before)
         → row_of_fields before number problem.now platform.now application.now fom.now ≡ Err fault }
 {
@@ -87,6 +91,8 @@ fn row_of(
         → row_of columns.now before (fields_of record.now) ≡ Ok row) }
     ensures met { IfOk result (λ row. (before : List Row) → keys platforms.old ≡ names_of (platforms_in before)
         → keys platforms.new ≡ names_of (platforms_in (before ++ row ∷ []))) }
+    ensures few { OnOk result (length (keys platforms.new) ≤ 64) }
+    ensures small { IfOk result (λ row. is_small row ≡ true) }
     ensures room { OnOk result (number < 100002) }
     ensures bad { (fault : BadCsv) → result ≡ Err (CsvFault.Bad fault) → (before : List Row) → number ≡ length before + 2
         → keys platforms.old ≡ names_of (platforms_in before) → row_of columns.now before (fields_of record.now) ≡ Err fault }
@@ -109,8 +115,8 @@ fn row_of(
 }
 
 /// The rows of a file, or its first fault.
-pub(crate) fn read_rows(alloc: Global, text: &[u8]) -> Result<Vec<Row>, CsvFault>
-    ensures rows { IfOk result (λ rows. measurements text.now ≡ Ok rows.items) }
+pub(crate) fn read_rows(alloc: Global, text: &[u8]) -> Result<Rows, CsvFault>
+    ensures rows { IfOk result (λ rows. measurements text.now ≡ Ok rows) }
     ensures bad { (fault : BadCsv) → result ≡ Err (CsvFault.Bad fault) → measurements text.now ≡ Err fault }
 {
     let mut reader = opened(alloc, text);
@@ -125,7 +131,7 @@ pub(crate) fn read_rows(alloc: Global, text: &[u8]) -> Result<Vec<Row>, CsvFault
     let mut rows = Vec::new(alloc);
     'rows: for number in FIRST_ROW..ROW_LIMIT + FIRST_ROW + 1 {
         if !next(&mut reader, &mut record)? {
-            return Ok(rows);
+            return Ok(Rows::new(alloc, rows, platforms)?);
         }
         rows.push(row_of(alloc, &columns, number, &mut platforms, &record)?)?;
     }

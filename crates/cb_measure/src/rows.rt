@@ -4,15 +4,19 @@ ghost use Rattle.cb_measure.specs.Reading.{measurements};
 ghost use Rattle.cb_measure.specs.declared.bad_csv.BadCsv.{BadCsv};
 
 use crate::bad_csv::CsvFault;
+use crate::names::listed;
 use crate::reading::read_rows;
 use crate::row::Row;
+use cb_paths::{Bytes, NoMemory, Texts};
 use std::alloc::Global;
+use std::collections::BTreeSet;
 use std::marker::Model;
 
 /// The measurements of a file, which contracts see as the list of its rows in their order.
 #[derive(Drop)]
 pub struct Rows {
     pub(crate) rows: Vec<Row>,
+    pub(crate) platforms: Texts,
 }
 
 impl Model for Rows {
@@ -21,10 +25,30 @@ impl Model for Rows {
 
     ghost Value = { List Row };
 
+    ghost use Rattle.cb_measure.specs.Inner.{IsTable};
+
     ghost view = { λ r. r.rows.items };
+
+    ghost invariant = { λ r. IsTable r.rows.items r.platforms };
 }
 
 impl Rows {
+    ghost use Rattle.std.specs.BTreeSet.{keys};
+    ghost use Rattle.cb_measure.specs.Inner.{IsTable};
+
+    /// The measurements with these rows and the set of their platforms.
+    pub(crate) fn new(
+        alloc: Global,
+        rows: Vec<Row>,
+        platforms: BTreeSet<Bytes>,
+    ) -> Result<Rows, NoMemory>
+        requires { IsTable rows.items (keys platforms) }
+        ensures { IfOk result (λ r. r ≡ rows.items) }
+    {
+        let platforms = listed(alloc, platforms)?;
+        Ok(Rows { rows, platforms })
+    }
+
     /// The rows in the order of the file.
     pub fn as_slice(&self) -> &[Row]
         ensures { result.now ≡ self.now }
@@ -53,7 +77,5 @@ pub fn read(alloc: Global, bytes: &[u8]) -> Result<Rows, CsvFault>
     ensures rows { IfOk result (λ rows. measurements bytes.now ≡ Ok rows) }
     ensures bad { (fault : BadCsv) → result ≡ Err (CsvFault.Bad fault) → measurements bytes.now ≡ Err fault }
 {
-    Ok(Rows {
-        rows: read_rows(alloc, bytes)?,
-    })
+    read_rows(alloc, bytes)
 }

@@ -1,6 +1,8 @@
 use Rattle.std.proofs.Common.{◌≡◌, ◌∙◌, ◌+◌, ◌≤◌, ◌<◌, ◌&&◌, ℕ, true, false, Some, None, Ok, Err, List, [], ◌∷◌, ◌++◌, length, refl, sym, ap, arith, rules, length-append}
 use Rattle.std.specs.Result.{is_ok}
 use Rattle.std.specs.BTreeSet.{keys}
+use Rattle.std.proofs.lemmas.List.Folds.{list_all-append}
+use Rattle.cb_measure.specs.Inner.{is_small}
 use Rattle.std.proofs.lemmas.Result.{err_from_is_err_and}
 use Rattle.cb_measure.specs.declared.bad_csv.CsvFault.TheVariants as CsvFault
 use Rattle.csv.specs.Records.{fields_of}
@@ -28,6 +30,8 @@ rows-init c =
     record {
       read = rw (none, empty) (none_read c.args.text.now c.next.new.reader c.in-Some.columns (fields_of c.next.new.record) header (sym c.in-Some.ensures));
       counted = rw none refl;
+      met_few = rw empty (omega arith);
+      small = rw none refl;
       few = rw none (omega arith);
     }
 
@@ -35,7 +39,7 @@ pub returns-then-not-branch-2-clause-rows : goal.returns-then-not-branch-2-claus
 returns-then-not-branch-2-clause-rows c =
     let none : c.in_ok-next-2.field-0 ≡ false = c.if-not-branch-2.true in
     let read = c.rows.invariant.read in
-    read_all c.args.text.now c.rows.reader c.in-Some.columns c.rows.rows.items (keys c.rows.platforms) read (c.in_ok-next-2.ensures.ended (rw none refl) c.args.text.now (read.header ∷ read.seen) read.behind)
+    rw c.in_ok-new.ensures (read_all c.args.text.now c.rows.reader c.in-Some.columns c.rows.rows.items (keys c.rows.platforms) read (c.in_ok-next-2.ensures.ended (rw none refl) c.args.text.now (read.header ∷ read.seen) read.behind))
 
 pub returns-in_err-row_of-clause-bad : goal.returns-in_err-row_of-clause-bad
 returns-in_err-row_of-clause-bad c fault h =
@@ -64,5 +68,7 @@ rows-preserved c =
     record {
       read = rw items more;
       counted = omega arith;
+      met_few = c.in_ok-row_of.ensures.few;
+      small = rw (items, list_all-append is_small c.rows.rows.items (c.in_ok-row_of.field-0 ∷ []), c.rows.invariant.small, c.in_ok-row_of.ensures.small) refl;
       few = omega arith;
     }
