@@ -1,5 +1,7 @@
-//! Tests of the metrics' crates over their public calls.
+//! Tests of the crates of figures and reports, over their public calls.
 #![tactic(auto)]
 
+#[cfg(test)]
+mod measure;
 #[cfg(test)]
 mod sets;

@@ -1,0 +1,114 @@
+//! Measurements: what is read of a file, and what it says.
+use cb_measure::{BadCsv, CsvFault, Rows, one_reading, read};
+use cb_paths::{NoMemory, Texts};
+use std::alloc::Global;
+use std::test::Fail;
+
+/// The example of the application x, which runs on a and half as well on b, and of y, which runs on b alone.
+const EXAMPLE: &[u8] = b"problem,platform,application,fom\np,a,x,1\np,b,x,2\np,b,y,1\n";
+
+/// The same with a failed run of x on c.
+const FAILING: &[u8] = b"problem,platform,application,fom\np,a,x,1\np,b,x,2\np,b,y,1\np,c,x,0\n";
+
+/// Three platforms on which x takes 2, 4 and 5 of the best time 1, 1 and 2: the efficiencies are 1/2, 1/4 and 2/5, and their harmonic mean is
+/// 3 / (2 + 4 + 5/2) = 6/17 = 0.352941176470(588..).
+const WORKED: &[u8] = b"fom,other,application,platform,problem\n2,-,x,a,p\n1.0,-,y,a,p\n4,-,x,b,p\n3,-,z,b,p\n1,-,z,b,p\n5,,x,c,p\n2,,y,c,p\n7,,y,c,p\n";
+
+/// The number of the fault of a file and its row, and 0 and the number of rows of one that is read.
+fn outcome(alloc: Global, text: &[u8]) -> Result<(u32, u32), NoMemory> {
+    match read(alloc, text) {
+        Ok(rows) => Ok((0, rows.len().min(1000) as u32)),
+        Err(CsvFault::Bad(BadCsv::Header)) => Ok((1, 1)),
+        Err(CsvFault::Bad(BadCsv::Fields(row))) => Ok((2, row)),
+        Err(CsvFault::Bad(BadCsv::Fom(row))) => Ok((3, row)),
+        Err(CsvFault::Bad(BadCsv::Name(row))) => Ok((4, row)),
+        Err(CsvFault::Bad(BadCsv::TooMany(row))) => Ok((5, row)),
+        Err(CsvFault::NoMemory) => Err(NoMemory),
+    }
+}
+
+#[test]
+fn faults_are_told(rt: HostRuntime) -> Result<(), Fail> {
+    one_reading();
+    for (text, number, row) in [
+        (b"".as_slice(), 1, 1),
+        (b"problem,platform,fom\n".as_slice(), 1, 1),
+        (b"problem,platform,application,fom,fom\n".as_slice(), 1, 1),
+        (b"problem,platform,application,fom\n".as_slice(), 0, 0),
+        (EXAMPLE, 0, 3),
+        (b"\xef\xbb\xbfproblem,platform,application,fom\r\np,a,x,1\r\n\r\n\"p\",\"a\",x,\"2\"\r\n".as_slice(), 0, 2),
+        (b"problem,platform,application,fom\np,a,x,1\np,a,x,1e3\n".as_slice(), 3, 3),
+        (b"problem,platform,application,fom\np,a,x,0.0000001\n".as_slice(), 3, 2),
+        (b"problem,platform,application,fom\np,a,x,0.0000010\np,a,x,0\np,a,x,\n".as_slice(), 0, 3),
+        (b"problem,platform,application,fom\np,a,x,1234567890\n".as_slice(), 3, 2),
+        (b"problem,platform,application,fom\np,a,x,1.\n".as_slice(), 3, 2),
+        (b"problem,platform,application,fom\np,a,x,.5\n".as_slice(), 3, 2),
+        (b"problem,platform,application,fom\np,a,x\n".as_slice(), 2, 2),
+        (b"problem,platform,application,fom\np,a,,1\n".as_slice(), 4, 2),
+        (b"problem,platform,application,fom\n\"p,q\",a,x,1e3\n".as_slice(), 4, 2),
+    ] {
+        assert!(rt; outcome(rt.alloc(), text)? == (number, row), "{number} {row}");
+    }
+    Ok(())
+}
+
+/// Whether a file has this efficiency of an application on a platform, and this portability.
+fn says(alloc: Global, text: &[u8], application: &[u8], platform: &[u8], efficiency: Option<u64>, portability: u64) -> Result<bool, CsvFault> {
+    let rows = read(alloc, text)?;
+    Ok(rows.efficiency(b"p", application, platform) == efficiency && rows.portability(b"p", application) == portability)
+}
+
+#[test]
+fn figures_are_worked_out(rt: HostRuntime) -> Result<(), Fail> {
+    for (text, application, platform, efficiency, portability) in [
+        (EXAMPLE, b"x".as_slice(), b"a".as_slice(), Some(1_000_000_000_000), 666_666_666_666),
+        (EXAMPLE, b"x".as_slice(), b"b".as_slice(), Some(500_000_000_000), 666_666_666_666),
+        (EXAMPLE, b"y".as_slice(), b"b".as_slice(), Some(1_000_000_000_000), 0),
+        (EXAMPLE, b"y".as_slice(), b"a".as_slice(), None, 0),
+        (FAILING, b"x".as_slice(), b"c".as_slice(), None, 0),
+        (EXAMPLE, b"z".as_slice(), b"a".as_slice(), None, 0),
+        (WORKED, b"x".as_slice(), b"b".as_slice(), Some(250_000_000_000), 352_941_176_470),
+        (WORKED, b"x".as_slice(), b"c".as_slice(), Some(400_000_000_000), 352_941_176_470),
+    ] {
+        assert!(rt; says(rt.alloc(), text, application, platform, efficiency, portability)?);
+    }
+    Ok(())
+}
+
+/// Whether texts are these, each with a line end behind it.
+fn are(texts: &Texts, lines: &[u8]) -> bool {
+    let mut rest = lines;
+    for text in texts.as_slice() {
+        let Some(behind) = rest.strip_prefix(text.as_slice()) else {
+            return false;
+        };
+        let Some(behind) = behind.strip_prefix(b"\n") else {
+            return false;
+        };
+        rest = behind;
+    }
+    rest.is_empty()
+}
+
+/// Whether a file has these problems, and these applications and platforms of the problem p.
+fn names(alloc: Global, text: &[u8], problems: &[u8], applications: &[u8], platforms: &[u8]) -> Result<bool, CsvFault> {
+    let rows = read(alloc, text)?;
+    Ok(are(&rows.problems(alloc)?, problems) && are(&rows.applications(alloc, b"p")?, applications) && are(&rows.platforms(alloc, b"p")?, platforms))
+}
+
+#[test]
+fn names_are_listed(rt: HostRuntime) -> Result<(), Fail> {
+    for (text, problems, applications, platforms) in [
+        (EXAMPLE, b"p\n".as_slice(), b"x\ny\n".as_slice(), b"a\nb\n".as_slice()),
+        (WORKED, b"p\n".as_slice(), b"x\ny\nz\n".as_slice(), b"a\nb\nc\n".as_slice()),
+        (
+            b"problem,platform,application,fom\nq,b,y,1\np,d,x,1\nq,a,y,1\nB,a,x,0\n".as_slice(),
+            b"B\np\nq\n".as_slice(),
+            b"x\n".as_slice(),
+            b"d\n".as_slice(),
+        ),
+    ] {
+        assert!(rt; names(rt.alloc(), text, problems, applications, platforms)?);
+    }
+    Ok(())
+}
