@@ -4,3 +4,4 @@ pub mod RowsRead
 pub mod NameLists
 pub mod Least
 pub mod Means
+pub mod Placed

@@ -1,5 +1,5 @@
 -- Sums over the platforms of a problem, one more at a time.
-use Rattle.std.proofs.Common.{◌≡◌, ℕ, ◌+◌, ◌*◌, ◌/◌, ◌^◌, ◌<◌, ◌≤◌, Bool, true, false, cond, ◌||◌, List, [], ◌∷◌, ◌++◌, length, filter, take, drop, get_or, refl, sym, ap, ◌∙◌, arith, eqb, length-append}
+use Rattle.std.proofs.Common.{◌≡◌, ℕ, ◌+◌, ◌*◌, ◌/◌, ◌^◌, ◌<◌, ◌≤◌, ◌≢◌, Bool, true, false, cond, ◌||◌, List, [], ◌∷◌, ◌++◌, length, filter, take, drop, get_or, refl, sym, ap, ◌∙◌, arith, eqb, length-append}
 use Rattle.std.specs.List.{list_any, sum_by}
 use Rattle.std.proofs.lemmas.Bool.{ne_eqb}
 use Rattle.std.proofs.lemmas.List.{append-nil, take-append-drop}
@@ -77,3 +77,32 @@ pub slow_is : (rows : List Row) (problem application platform : List ℕ) (slow 
     → best ≡ best_on rows problem platform → slow ≡ slowness rows problem application platform
 unfolding slowness
 slow_is rows problem application platform slow figure best e f b = e ∙ rw (f, b) refl
+
+-- a platform more, by its figures
+pub summed_with : (rows : List Row) (problem application : List ℕ) (platforms : List (List ℕ)) (platform : List ℕ) (count total count' total' figure best : ℕ) → IsSummed rows problem application platforms count total
+    → figure ≢ 0 → figure ≡ figure_on rows problem application platform → best ≡ best_on rows problem platform → count' ≡ count + 1 → total' ≡ total + figure * units / best
+    → count' * units ≤ total' → total' ≤ count' * 10 ^ 27 → IsSummed rows problem application (platforms ++ platform ∷ []) count' total'
+unfolding fails_on slowness
+summed_with rows problem application platforms platform count total count' total' figure best h runs f b ec et low high = record {
+  runs = list_any-append (λ platform. eqb (figure_on rows problem application platform) 0) platforms (platform ∷ []) ∙ rw (h.runs, ne_eqb (figure_on rows problem application platform) 0 (λ z. runs (f ∙ z))) refl;
+  counted = rw (length-append platforms (platform ∷ [])) (omega (arith, h.counted));
+  summed = rw (sum_by-append (λ platform. figure_on rows problem application platform * units / best_on rows problem platform) platforms (platform ∷ []), et, f, b) (omega (arith, h.summed));
+  low = low;
+  high = high;
+}
+
+-- what is told of failures by one more platform
+pub fails_last : (rows : List Row) (problem application : List ℕ) (platforms : List (List ℕ)) (platform : List ℕ) → figure_on rows problem application platform ≡ 0
+    → fails_on rows problem application (platforms ++ platform ∷ []) ≡ true
+fails_last rows problem application platforms platform e = rw (append-nil (platforms ++ platform ∷ [])) at (fails_more rows problem application platforms platform [] e)
+
+pub fails_kept : (rows : List Row) (problem application : List ℕ) (platforms : List (List ℕ)) (platform : List ℕ) → fails_on rows problem application platforms ≡ true
+    → fails_on rows problem application (platforms ++ platform ∷ []) ≡ true
+unfolding fails_on
+fails_kept rows problem application platforms platform e = list_any-append (λ platform. eqb (figure_on rows problem application platform) 0) platforms (platform ∷ []) ∙ rw e refl
+
+-- the mean, also after a failure
+pub mean_is : (rows : List Row) (problem application : List ℕ) (platforms : List (List ℕ)) (failed : Bool) (count total : ℕ) → (failed ≡ true → fails_on rows problem application platforms ≡ true)
+    → (failed ≡ false → IsSummed rows problem application platforms count total) → cond failed 0 (cond (eqb count 0) 0 (count * 10 ^ 24 / total)) ≡ portability_over rows problem application platforms
+mean_is rows problem application platforms true count total f s = sym (mean_failed rows problem application platforms (f refl))
+mean_is rows problem application platforms false count total f s = mean_of rows problem application platforms count total (s refl)

@@ -3,4 +3,5 @@ pub mod Names
 pub mod Header
 pub mod Reading
 pub mod Metrics
+pub mod Cascade
 pub mod Inner

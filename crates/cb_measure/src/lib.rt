@@ -2,10 +2,12 @@
 #![tactic(auto)]
 
 mod bad_csv;
+mod cascade;
 mod figure;
 mod figures;
 mod header;
 mod laws;
+mod mean;
 mod metrics;
 mod names;
 mod pace;
@@ -13,6 +15,8 @@ mod reading;
 mod records;
 mod row;
 mod rows;
+mod step;
+mod steps;
 
 pub use bad_csv::{BadCsv, CsvFault};
 pub use laws::one_reading;

@@ -6,15 +6,13 @@ ghost use Rattle.cb_measure.specs.Inner.{is_small};
 ghost use Rattle.cb_measure.specs.Metrics.{figure_on, best_on, efficiency_of, occurs, portability_over, portability_of, problems_of, applications_of, platforms_of};
 
 use crate::figures::{best_on, figure_on, occurs};
+use crate::mean::harmonic_mean;
 use crate::names;
 use crate::pace::Pace;
 use crate::row::Row;
 use crate::rows::Rows;
 use cb_paths::{Bytes, NoMemory, Texts};
 use std::alloc::Global;
-
-/// The square of the units of the grid.
-const SQUARE: u128 = 1_000_000_000_000_000_000_000_000;
 
 /// The figure of an application for a problem on a platform, beside the best one there.
 pub(crate) fn pace_on(rows: &[Row], problem: &[u8], application: &[u8], platform: &[u8]) -> Pace
@@ -25,18 +23,6 @@ pub(crate) fn pace_on(rows: &[Row], problem: &[u8], application: &[u8], platform
     let figure = figure_on(rows, problem, application, platform);
     let best = best_on(rows, problem, platform);
     Pace { best, figure }
-}
-
-/// The mean of so many efficiencies by the sum of their reciprocals, on the grid, or 0 of none.
-pub(crate) fn harmonic_mean(count: u64, total: u128) -> u64
-    requires few { count ≤ 64 }
-    requires low { count * units ≤ total }
-    ensures { result ≡ (if count == 0 then 0 else count * 10 ^ 24 / total) }
-{
-    if count == 0 {
-        return 0;
-    }
-    (u128::from(count) * SQUARE / total) as u64
 }
 
 /// Those of the platforms with a row of a problem.

@@ -90,6 +90,57 @@ fn are(texts: &Texts, lines: &[u8]) -> bool {
     rest.is_empty()
 }
 
+/// Whether the cascade of x for the problem p has these steps: a platform, an efficiency and a portability.
+fn falls(alloc: Global, text: &[u8], wanted: &[(&[u8], u64, u64)]) -> Result<bool, CsvFault> {
+    let steps = read(alloc, text)?.cascade(alloc, b"p", b"x")?;
+    let same = steps
+        .as_slice()
+        .iter()
+        .zip(wanted)
+        .filter(|(step, wanted)| step.platform.as_slice() == wanted.0 && step.efficiency == wanted.1 && step.portability == wanted.2)
+        .count();
+    Ok(steps.len() == wanted.len() && same == wanted.len())
+}
+
+/// Two efficiencies of one grid value: 999999999998/999999999999 and 999999999999/1000000000000 differ by about 10^-24, so that the platform
+/// b stands first, though a is first by name.
+const CLOSE: &[u8] = b"problem,platform,application,fom\np,a,y,999999.999998\np,a,x,999999.999999\np,b,y,999999.999999\np,b,x,1000000.000000\n";
+
+#[test]
+fn cascades_fall(rt: HostRuntime) -> Result<(), Fail> {
+    for (text, wanted) in [
+        (
+            FAILING,
+            [
+                (b"a".as_slice(), 1_000_000_000_000, 1_000_000_000_000),
+                (b"b".as_slice(), 500_000_000_000, 666_666_666_666),
+                (b"c".as_slice(), 0, 0),
+            ]
+            .as_slice(),
+        ),
+        (
+            WORKED,
+            [
+                (b"a".as_slice(), 500_000_000_000, 500_000_000_000),
+                (b"c".as_slice(), 400_000_000_000, 444_444_444_444),
+                (b"b".as_slice(), 250_000_000_000, 352_941_176_470),
+            ]
+            .as_slice(),
+        ),
+        (
+            CLOSE,
+            [
+                (b"b".as_slice(), 999_999_999_999, 999_999_999_999),
+                (b"a".as_slice(), 999_999_999_998, 999_999_999_999),
+            ]
+            .as_slice(),
+        ),
+    ] {
+        assert!(rt; falls(rt.alloc(), text, wanted)?);
+    }
+    Ok(())
+}
+
 /// Whether a file has these problems, and these applications and platforms of the problem p.
 fn names(alloc: Global, text: &[u8], problems: &[u8], applications: &[u8], platforms: &[u8]) -> Result<bool, CsvFault> {
     let rows = read(alloc, text)?;
