@@ -1,16 +1,16 @@
 -- The records of a text, as a reader comes to them.
-use Rattle.std.proofs.Common.{◌≡◌, ℕ, ◌+◌, ◌<◌, ◌≤◌, ◌||◌, zero, suc, Bool, true, false, cond, Option, Some, None, List, [], ◌∷◌, ◌++◌, length, refl, sym, ap, ◌∙◌, arith, eqb, ◌-◌, zero-add, get_or}
+use Rattle.std.proofs.Common.{◌≡◌, ℕ, ◌+◌, ◌<◌, ◌≤◌, ◌||◌, zero, suc, Bool, true, false, cond, Option, Some, None, List, [], ◌∷◌, ◌++◌, length, refl, ap, ◌∙◌, arith, eqb, ◌-◌, zero-add, get_or}
 use denote.Ref.{Bor}
-use Rattle.std.proofs.Common.{inl, inr}
+use Rattle.std.proofs.Common.{inl}
 use Rattle.csv.specs.Records.{field_at}
 use Rattle.csv.specs.declared.reader.Reader.{Reader}
-use Rattle.csv.specs.Reading.{ReadRecord, Ready}
+use Rattle.csv.specs.Reading.{ReadRecord}
 use Rattle.csv.proofs.ReadFacts.{rows-end, rows-more}
 use Rattle.cb_measure.specs.Inner.{IsBehind}
 use Rattle.cb_measure.specs.Reading.{records_of}
 use Rattle.std.proofs.lemmas.List.{append-nil}
 use Rattle.csv.specs.Machine.{Read, step, is_end, ends_at_end, next_record, fields_after, field_after}
-use Rattle.csv.specs.Reading.{Reached, records_from, records, records_next, default_config, strip_bom}
+use Rattle.csv.specs.Reading.{Reached, records_from, records, default_config, strip_bom}
 use Rattle.csv.specs.declared.parser.State.{State}
 use Rattle.csv.specs.declared.parser.State.TheVariants as st
 use Rattle.csv.specs.declared.parser.Action.{Action}

@@ -1,5 +1,5 @@
 -- A platform among others.
-use Rattle.std.proofs.Common.{◌≡◌, ℕ, ◌+◌, arith, suc, Bool, true, false, cond, List, [], ◌∷◌, ◌++◌, ◌*◌, ◌/◌, ◌<◌, zero, None, Some, unwrap_or, eqb, length, filter, take, get_or, refl, sym, ap, ◌∙◌}
+use Rattle.std.proofs.Common.{◌≡◌, ℕ, ◌+◌, arith, suc, Bool, true, false, cond, List, [], ◌∷◌, ◌*◌, ◌/◌, ◌<◌, zero, None, Some, unwrap_or, eqb, length, filter, take, get_or, refl, sym, ap, ◌∙◌}
 use Rattle.std.specs.List.{fold}
 use Rattle.std.proofs.lemmas.List.Sums.{fold-append}
 use Rattle.cb_paths.specs.Grid.{units}

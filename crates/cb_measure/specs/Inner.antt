@@ -1,5 +1,5 @@
 -- Words of private clauses.
-use Rattle.std.specs.Prelude.{◌≡◌, ℕ, ◌≤◌, ◌^◌, nat_lt, Bool, true, List, length, Option, Some}
+use Rattle.std.specs.Prelude.{◌≡◌, ℕ, ◌≤◌, ◌^◌, nat_lt, Bool, true, List, length, Some}
 use Rattle.std.specs.List.{list_all}
 use Rattle.cb_measure.specs.Names.{names_of}
 use Rattle.cb_measure.specs.Reading.{platforms_in}

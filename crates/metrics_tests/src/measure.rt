@@ -12,7 +12,8 @@ const FAILING: &[u8] = b"problem,platform,application,fom\np,a,x,1\np,b,x,2\np,b
 
 /// Three platforms on which x takes 2, 4 and 5 of the best time 1, 1 and 2: the efficiencies are 1/2, 1/4 and 2/5, and their harmonic mean is
 /// 3 / (2 + 4 + 5/2) = 6/17 = 0.352941176470(588..).
-const WORKED: &[u8] = b"fom,other,application,platform,problem\n2,-,x,a,p\n1.0,-,y,a,p\n4,-,x,b,p\n3,-,z,b,p\n1,-,z,b,p\n5,,x,c,p\n2,,y,c,p\n7,,y,c,p\n";
+const WORKED: &[u8] =
+    b"fom,other,application,platform,problem\n2,-,x,a,p\n1.0,-,y,a,p\n4,-,x,b,p\n3,-,z,b,p\n1,-,z,b,p\n5,,x,c,p\n2,,y,c,p\n7,,y,c,p\n";
 
 /// The number of the fault of a file and its row, and 0 and the number of rows of one that is read.
 fn outcome(alloc: Global, text: &[u8]) -> Result<(u32, u32), NoMemory> {
@@ -36,41 +37,178 @@ fn faults_are_told(rt: HostRuntime) -> Result<(), Fail> {
         (b"problem,platform,application,fom,fom\n".as_slice(), 1, 1),
         (b"problem,platform,application,fom\n".as_slice(), 0, 0),
         (EXAMPLE, 0, 3),
-        (b"\xef\xbb\xbfproblem,platform,application,fom\r\np,a,x,1\r\n\r\n\"p\",\"a\",x,\"2\"\r\n".as_slice(), 0, 2),
-        (b"problem,platform,application,fom\np,a,x,1\np,a,x,1e3\n".as_slice(), 3, 3),
-        (b"problem,platform,application,fom\np,a,x,0.0000001\n".as_slice(), 3, 2),
-        (b"problem,platform,application,fom\np,a,x,0.0000010\np,a,x,0\np,a,x,\n".as_slice(), 0, 3),
-        (b"problem,platform,application,fom\np,a,x,1234567890\n".as_slice(), 3, 2),
-        (b"problem,platform,application,fom\np,a,x,1.\n".as_slice(), 3, 2),
-        (b"problem,platform,application,fom\np,a,x,.5\n".as_slice(), 3, 2),
-        (b"problem,platform,application,fom\np,a,x\n".as_slice(), 2, 2),
-        (b"problem,platform,application,fom\np,a,,1\n".as_slice(), 4, 2),
-        (b"problem,platform,application,fom\n\"p,q\",a,x,1e3\n".as_slice(), 4, 2),
+        (
+            b"\xef\xbb\xbfproblem,platform,application,fom\r\np,a,x,1\r\n\r\n\"p\",\"a\",x,\"2\"\r\n".as_slice(),
+            0,
+            2,
+        ),
+        (
+            b"problem,platform,application,fom\np,a,x,1\np,a,x,1e3\n".as_slice(),
+            3,
+            3,
+        ),
+        (
+            b"problem,platform,application,fom\np,a,x,0.0000001\n".as_slice(),
+            3,
+            2,
+        ),
+        (
+            b"problem,platform,application,fom\np,a,x,0.0000010\np,a,x,0\np,a,x,\n".as_slice(),
+            0,
+            3,
+        ),
+        (
+            b"problem,platform,application,fom\np,a,x,1234567890\n".as_slice(),
+            3,
+            2,
+        ),
+        (
+            b"problem,platform,application,fom\np,a,x,1.\n".as_slice(),
+            3,
+            2,
+        ),
+        (
+            b"problem,platform,application,fom\np,a,x,.5\n".as_slice(),
+            3,
+            2,
+        ),
+        (
+            b"problem,platform,application,fom\np,a,x\n".as_slice(),
+            2,
+            2,
+        ),
+        (
+            b"problem,platform,application,fom\np,a,,1\n".as_slice(),
+            4,
+            2,
+        ),
+        (
+            b"problem,platform,application,fom\n\"p,q\",a,x,1e3\n".as_slice(),
+            4,
+            2,
+        ),
     ] {
-        assert!(rt; outcome(rt.alloc(), text)? == (number, row), "{number} {row}");
+        assert!(rt;
+            outcome(rt.alloc(), text)? == (number, row),
+            "{number} {row}"
+        );
+    }
+    Ok(())
+}
+
+/// The outcome of a file with so many rows of each text.
+fn repeated(alloc: Global, rows: &[(&[u8], u32)]) -> Result<(u32, u32), NoMemory> {
+    let mut text = Vec::from_slice(alloc, b"problem,platform,application,fom\n")?;
+    for (row, times) in rows {
+        for _ in 0..*times {
+            text.extend_from_slice(row)?;
+        }
+    }
+    outcome(alloc, text.as_slice())
+}
+
+/// The outcome of a file with so many platforms.
+fn on_platforms(alloc: Global, count: u8) -> Result<(u32, u32), NoMemory> {
+    let mut text = Vec::from_slice(alloc, b"problem,platform,application,fom\n")?;
+    for platform in 0..count {
+        text.extend_from_slice(b"p,")?;
+        text.push(b'0' + platform / 10)?;
+        text.push(b'0' + platform % 10)?;
+        text.extend_from_slice(b",x,1\n")?;
+    }
+    outcome(alloc, text.as_slice())
+}
+
+#[test]
+fn limits_are_kept(rt: HostRuntime) -> Result<(), Fail> {
+    for (last, number, row) in [
+        (b"".as_slice(), 0, 1000),
+        (b"p,a,x,1\n".as_slice(), 5, 100_002),
+        (b"p\n".as_slice(), 5, 100_002),
+    ] {
+        assert!(rt;
+            repeated(rt.alloc(), &[(b"p,a,x,1\n".as_slice(), 100_000), (last, 1)])?
+                == (number, row),
+            "{number}"
+        );
+    }
+    for (count, number, row) in [(64, 0, 64), (65, 5, 66)] {
+        assert!(rt;
+            on_platforms(rt.alloc(), count)? == (number, row),
+            "{count} platforms"
+        );
     }
     Ok(())
 }
 
 /// Whether a file has this efficiency of an application on a platform, and this portability.
-fn says(alloc: Global, text: &[u8], application: &[u8], platform: &[u8], efficiency: Option<u64>, portability: u64) -> Result<bool, CsvFault> {
+fn says(
+    alloc: Global,
+    text: &[u8],
+    application: &[u8],
+    platform: &[u8],
+    efficiency: Option<u64>,
+    portability: u64,
+) -> Result<bool, CsvFault> {
     let rows = read(alloc, text)?;
-    Ok(rows.efficiency(b"p", application, platform) == efficiency && rows.portability(b"p", application) == portability)
+    Ok(
+        rows.efficiency(b"p", application, platform) == efficiency
+            && rows.portability(b"p", application) == portability,
+    )
 }
 
 #[test]
 fn figures_are_worked_out(rt: HostRuntime) -> Result<(), Fail> {
     for (text, application, platform, efficiency, portability) in [
-        (EXAMPLE, b"x".as_slice(), b"a".as_slice(), Some(1_000_000_000_000), 666_666_666_666),
-        (EXAMPLE, b"x".as_slice(), b"b".as_slice(), Some(500_000_000_000), 666_666_666_666),
-        (EXAMPLE, b"y".as_slice(), b"b".as_slice(), Some(1_000_000_000_000), 0),
+        (
+            EXAMPLE,
+            b"x".as_slice(),
+            b"a".as_slice(),
+            Some(1_000_000_000_000),
+            666_666_666_666,
+        ),
+        (
+            EXAMPLE,
+            b"x".as_slice(),
+            b"b".as_slice(),
+            Some(500_000_000_000),
+            666_666_666_666,
+        ),
+        (
+            EXAMPLE,
+            b"y".as_slice(),
+            b"b".as_slice(),
+            Some(1_000_000_000_000),
+            0,
+        ),
         (EXAMPLE, b"y".as_slice(), b"a".as_slice(), None, 0),
         (FAILING, b"x".as_slice(), b"c".as_slice(), None, 0),
         (EXAMPLE, b"z".as_slice(), b"a".as_slice(), None, 0),
-        (WORKED, b"x".as_slice(), b"b".as_slice(), Some(250_000_000_000), 352_941_176_470),
-        (WORKED, b"x".as_slice(), b"c".as_slice(), Some(400_000_000_000), 352_941_176_470),
+        (
+            WORKED,
+            b"x".as_slice(),
+            b"b".as_slice(),
+            Some(250_000_000_000),
+            352_941_176_470,
+        ),
+        (
+            WORKED,
+            b"x".as_slice(),
+            b"c".as_slice(),
+            Some(400_000_000_000),
+            352_941_176_470,
+        ),
     ] {
-        assert!(rt; says(rt.alloc(), text, application, platform, efficiency, portability)?);
+        assert!(rt;
+            says(
+                rt.alloc(),
+                text,
+                application,
+                platform,
+                efficiency,
+                portability
+            )?
+        );
     }
     Ok(())
 }
@@ -97,14 +235,17 @@ fn falls(alloc: Global, text: &[u8], wanted: &[(&[u8], u64, u64)]) -> Result<boo
         .as_slice()
         .iter()
         .zip(wanted)
-        .filter(|(step, wanted)| step.platform.as_slice() == wanted.0 && step.efficiency == wanted.1 && step.portability == wanted.2)
+        .filter(|(step, wanted)| step.platform.as_slice() == wanted.0
+            && step.efficiency == wanted.1
+            && step.portability == wanted.2)
         .count();
     Ok(steps.len() == wanted.len() && same == wanted.len())
 }
 
-/// Two efficiencies of one grid value: 999999999998/999999999999 and 999999999999/1000000000000 differ by about 10^-24, so that the platform
-/// b stands first, though a is first by name.
-const CLOSE: &[u8] = b"problem,platform,application,fom\np,a,y,999999.999998\np,a,x,999999.999999\np,b,y,999999.999999\np,b,x,1000000.000000\n";
+/// Two efficiencies of one grid value, 666666666666: that on b, 200000000/299999999.999999, is a little above that on a, 2/3, so that b stands
+/// first.
+const CLOSE: &[u8] =
+    b"problem,platform,application,fom\np,a,y,2\np,a,x,3\np,b,y,200000000\np,b,x,299999999.999999\n";
 
 #[test]
 fn cascades_fall(rt: HostRuntime) -> Result<(), Fail> {
@@ -130,8 +271,8 @@ fn cascades_fall(rt: HostRuntime) -> Result<(), Fail> {
         (
             CLOSE,
             [
-                (b"b".as_slice(), 999_999_999_999, 999_999_999_999),
-                (b"a".as_slice(), 999_999_999_998, 999_999_999_999),
+                (b"b".as_slice(), 666_666_666_666, 666_666_666_667),
+                (b"a".as_slice(), 666_666_666_666, 666_666_666_666),
             ]
             .as_slice(),
         ),
@@ -142,16 +283,36 @@ fn cascades_fall(rt: HostRuntime) -> Result<(), Fail> {
 }
 
 /// Whether a file has these problems, and these applications and platforms of the problem p.
-fn names(alloc: Global, text: &[u8], problems: &[u8], applications: &[u8], platforms: &[u8]) -> Result<bool, CsvFault> {
+fn names(
+    alloc: Global,
+    text: &[u8],
+    problems: &[u8],
+    applications: &[u8],
+    platforms: &[u8],
+) -> Result<bool, CsvFault> {
     let rows = read(alloc, text)?;
-    Ok(are(&rows.problems(alloc)?, problems) && are(&rows.applications(alloc, b"p")?, applications) && are(&rows.platforms(alloc, b"p")?, platforms))
+    Ok(
+        are(&rows.problems(alloc)?, problems)
+            && are(&rows.applications(alloc, b"p")?, applications)
+            && are(&rows.platforms(alloc, b"p")?, platforms),
+    )
 }
 
 #[test]
 fn names_are_listed(rt: HostRuntime) -> Result<(), Fail> {
     for (text, problems, applications, platforms) in [
-        (EXAMPLE, b"p\n".as_slice(), b"x\ny\n".as_slice(), b"a\nb\n".as_slice()),
-        (WORKED, b"p\n".as_slice(), b"x\ny\nz\n".as_slice(), b"a\nb\nc\n".as_slice()),
+        (
+            EXAMPLE,
+            b"p\n".as_slice(),
+            b"x\ny\n".as_slice(),
+            b"a\nb\n".as_slice(),
+        ),
+        (
+            WORKED,
+            b"p\n".as_slice(),
+            b"x\ny\nz\n".as_slice(),
+            b"a\nb\nc\n".as_slice(),
+        ),
         (
             b"problem,platform,application,fom\nq,b,y,1\np,d,x,1\nq,a,y,1\nB,a,x,0\n".as_slice(),
             b"B\np\nq\n".as_slice(),

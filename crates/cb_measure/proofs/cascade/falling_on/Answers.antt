@@ -1,4 +1,4 @@
-use Rattle.std.proofs.Common.{◌≡◌, ◌∙◌, ◌+◌, ◌≤◌, length, refl, sym, ap, true, arith}
+use Rattle.std.proofs.Common.{sym, arith}
 use Rattle.cb_measure.specs.Metrics.{occurs}
 use Rattle.cb_measure.proofs.Means.{passes_over}
 use Rattle.cb_measure.proofs.Placed.{put_more}

@@ -1,5 +1,4 @@
-use Rattle.std.proofs.Common.{◌≡◌, ◌∙◌, refl, sym, ap, rules, true}
-use Rattle.std.specs.Result.{is_ok}
+use Rattle.std.proofs.Common.{◌∙◌}
 use Rattle.cb_measure.proofs.Placed.{put_is}
 use Rattle.cb_measure.proofs.cascade.put.Goals as goal
 

@@ -1,4 +1,4 @@
-use Rattle.std.proofs.Common.{◌≡◌, ◌∙◌, ◌+◌, ◌-◌, ◌*◌, ◌^◌, ◌<◌, ◌≤◌, Some, None, true, false, List, [], ◌∷◌, length, take, drop, get_or, refl, sym, ap, arith}
+use Rattle.std.proofs.Common.{length, arith}
 use Rattle.std.proofs.Math.Nat.{pow-le-pow_right}
 use Rattle.std.proofs.lemmas.Option.{IfSome_then}
 use Rattle.cb_measure.proofs.figure.counted.Goals as goal

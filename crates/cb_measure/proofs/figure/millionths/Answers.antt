@@ -1,5 +1,4 @@
-use Rattle.std.proofs.Common.{◌≡◌, ◌∙◌, ◌+◌, ◌-◌, ◌*◌, ◌^◌, ◌<◌, ◌≤◌, Some, None, true, false, List, [], ◌∷◌, length, take, drop, get_or, refl, sym, ap, arith}
-use Rattle.std.proofs.lemmas.List.{length-take}
+use Rattle.std.proofs.Common.{◌-◌, length, take, refl, arith}
 use Rattle.cb_measure.specs.Figures.{sixths}
 use Rattle.cb_measure.proofs.Spelled.{power, first_six}
 use Rattle.cb_measure.proofs.figure.millionths.Goals as goal

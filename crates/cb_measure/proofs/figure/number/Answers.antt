@@ -1,7 +1,5 @@
-use Rattle.std.proofs.Common.{◌≡◌, ◌+◌, ◌-◌, ◌*◌, ◌^◌, ◌<◌, ◌≤◌, true, length, get_or, take, refl, sym, ◌∙◌, arith, ◌&&◌, Bool}
+use Rattle.std.proofs.Common.{◌≡◌, true, get_or, refl, sym, ◌∙◌, arith}
 use Rattle.std.specs.Char.{is_ascii_digit}
-use Rattle.std.specs.List.{list_all}
-use Rattle.std.specs.Str.Parse.{digits_value}
 use Rattle.std.proofs.lemmas.List.Folds.{list_all_more}
 use Rattle.cb_measure.proofs.Spelled.{digit_is, number_more, number_small, number_within}
 use Rattle.cb_measure.proofs.figure.number.Goals as goal

@@ -1,4 +1,4 @@
-use Rattle.std.proofs.Common.{◌≡◌, ◌∙◌, ◌+◌, ◌-◌, ◌*◌, ◌^◌, ◌<◌, ◌≤◌, Some, None, true, false, List, [], ◌∷◌, length, take, drop, get_or, refl, sym, ap, arith}
+use Rattle.std.proofs.Common.{refl, sym}
 use Rattle.cb_measure.specs.Figures.{with_fraction}
 use Rattle.cb_measure.proofs.Spelled.{all_digits}
 use Rattle.cb_measure.proofs.figure.with_fraction.Goals as goal

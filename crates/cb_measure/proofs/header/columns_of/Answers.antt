@@ -1,4 +1,4 @@
-use Rattle.std.proofs.Common.{◌≡◌, ◌∙◌, Some, None, List, refl, sym, ap, arith}
+use Rattle.std.proofs.Common.{refl}
 use Rattle.cb_measure.specs.Header.{columns_of}
 use Rattle.cb_measure.proofs.header.columns_of.Goals as goal
 

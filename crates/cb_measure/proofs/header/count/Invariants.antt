@@ -1,4 +1,4 @@
-use Rattle.std.proofs.Common.{◌≡◌, List, take}
+use Rattle.std.proofs.Common.{◌≡◌, take}
 use Rattle.std.specs.List.{count_by}
 use Rattle.std.specs.Str.{bytes_eq}
 use Rattle.csv.specs.Records.{fields_of}

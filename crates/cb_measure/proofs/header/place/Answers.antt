@@ -1,4 +1,4 @@
-use Rattle.std.proofs.Common.{◌≡◌, ◌∙◌, ℕ, ◌<◌, ◌≤◌, true, false, List, [], get_or, length, refl, sym, ap, arith, below_more}
+use Rattle.std.proofs.Common.{◌≡◌, [], sym, arith, below_more}
 use Rattle.std.specs.Str.{bytes_eq}
 use Rattle.std.proofs.lemmas.List.Sums.{position_or_len_is}
 use Rattle.csv.specs.Records.{fields_of}

@@ -1,4 +1,3 @@
-use Rattle.std.proofs.Common.{◌≡◌, ◌<◌, ◌≤◌, ◌^◌, sym, refl, arith}
 use Rattle.cb_measure.proofs.Least.{beside_best, small_figure}
 use Rattle.cb_measure.proofs.metrics.pace_on.Goals as goal
 

@@ -1,6 +1,6 @@
-use Rattle.std.proofs.Common.{◌≡◌, ◌∙◌, ◌+◌, ◌*◌, ◌≤◌, ◌<◌, ◌^◌, ℕ, true, false, Some, None, List, [], ◌∷◌, ◌++◌, length, take, filter, refl, sym, ap, arith, rules}
+use Rattle.std.proofs.Common.{◌≡◌, ◌∙◌, take, refl, sym, arith}
 use Rattle.std.proofs.lemmas.List.{take_all}
-use Rattle.cb_measure.specs.Metrics.{portability_over, occurs, figure_on}
+use Rattle.cb_measure.specs.Metrics.{occurs}
 use Rattle.cb_measure.proofs.Means.{passes_more, passes_over, summed_none, summed_more, slow_is, mean_of, mean_failed, fails_at}
 use Rattle.cb_measure.proofs.metrics.portability_on.Goals as goal
 use Rattle.cb_measure.proofs.metrics.portability_on.Goals.{then-occurs+else-pace-eq0, else-occurs}

@@ -1,4 +1,4 @@
-use Rattle.std.proofs.Common.{◌≡◌, ◌∙◌, ◌+◌, ◌≤◌, ◌<◌, ◌&&◌, ℕ, true, false, Some, None, Ok, Err, List, [], ◌∷◌, ◌++◌, length, take, map, filter, refl, sym, ap, arith, rules}
+use Rattle.std.proofs.Common.{◌≡◌, ◌∙◌, List, map, filter, sym, ap, arith}
 use Rattle.std.specs.BTreeSet.{keys}
 use Rattle.std.proofs.lemmas.List.{take_all}
 use Rattle.cb_measure.specs.Metrics.{applications_of, of_problem}

@@ -1,4 +1,4 @@
-use Rattle.std.proofs.Common.{◌≡◌, ◌∙◌, ◌+◌, ◌≤◌, ◌<◌, ◌&&◌, ℕ, true, false, Some, None, Ok, Err, List, [], ◌∷◌, ◌++◌, length, refl, sym, ap, arith, rules, length-append}
+use Rattle.std.proofs.Common.{◌≡◌, ◌+◌, true, false, Err, [], ◌∷◌, length, refl, sym, ap, arith, rules, length-append}
 use Rattle.std.specs.Result.{is_ok}
 use Rattle.std.specs.BTreeSet.{keys}
 use Rattle.std.proofs.lemmas.List.Folds.{list_all-append}
@@ -6,7 +6,7 @@ use Rattle.cb_measure.specs.Inner.{is_small}
 use Rattle.std.proofs.lemmas.Result.{err_from_is_err_and}
 use Rattle.cb_measure.specs.declared.bad_csv.CsvFault.TheVariants as CsvFault
 use Rattle.csv.specs.Records.{fields_of}
-use Rattle.cb_measure.proofs.RowsRead.{AreRead, read_more, read_all, read_fault, no_header, bad_header, none_read}
+use Rattle.cb_measure.proofs.RowsRead.{read_more, read_all, read_fault, no_header, bad_header, none_read}
 use Rattle.cb_measure.proofs.reading.read_rows.Goals as goal
 
 pub returns-then-not-branch-clause-bad : goal.returns-then-not-branch-clause-bad

@@ -1,4 +1,4 @@
-use Rattle.std.proofs.Common.{◌≡◌, ◌∙◌, ◌+◌, ◌≤◌, ◌<◌, ◌&&◌, ℕ, true, false, Some, None, Ok, Err, List, [], ◌∷◌, ◌++◌, length, refl, sym, ap, arith}
+use Rattle.std.proofs.Common.{◌≡◌, ◌∙◌, ◌+◌, Ok, Err, List, length, sym, arith}
 use Rattle.csv.specs.Records.{fields_of}
 use Rattle.std.specs.BTreeSet.{keys}
 use Rattle.std.proofs.lemmas.Bool.{ne_eqb}

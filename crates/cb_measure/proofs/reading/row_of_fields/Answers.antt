@@ -1,8 +1,4 @@
-use Rattle.std.proofs.Common.{◌≡◌, ◌∙◌, ◌+◌, ◌≤◌, ◌<◌, ◌&&◌, ℕ, true, false, Some, None, Ok, Err, List, [], ◌∷◌, ◌++◌, length, refl, sym, ap, arith}
-use Rattle.std.specs.Prelude.{nat_le}
-use Rattle.cb_paths.specs.Names.{is_name}
-use Rattle.cb_measure.specs.Names.{names_of}
-use Rattle.cb_measure.specs.Reading.{platforms_in}
+use Rattle.std.proofs.Common.{◌≡◌, ◌∙◌, true, false, sym}
 use Rattle.cb_measure.proofs.RowsRead.{no_name, no_room, no_figure, a_row, met_platforms, names_push}
 use Rattle.cb_measure.proofs.reading.row_of_fields.Goals as goal
 

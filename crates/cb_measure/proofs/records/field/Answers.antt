@@ -1,4 +1,4 @@
-use Rattle.std.proofs.Common.{◌≡◌, List, Some, None, refl, sym, ap, ◌∙◌, arith}
+use Rattle.std.proofs.Common.{sym}
 use Rattle.cb_measure.proofs.Consumed.{field_there, field_past}
 use Rattle.cb_measure.proofs.records.field.Goals as goal
 

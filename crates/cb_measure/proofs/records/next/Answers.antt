@@ -1,4 +1,4 @@
-use Rattle.std.proofs.Common.{◌≡◌, List, true, false, Some, None, refl, sym, ap, ◌∙◌, arith}
+use Rattle.std.proofs.Common.{◌≡◌, true, false}
 use Rattle.cb_measure.proofs.Consumed.{behind_more, behind_all}
 use Rattle.cb_measure.proofs.records.next.Goals as goal
 

@@ -1,4 +1,4 @@
-use Rattle.std.proofs.Common.{◌≡◌, List, Some, None, refl, sym, ap, ◌∙◌, arith, inl, inr}
+use Rattle.std.proofs.Common.{refl, sym, ◌∙◌, inr}
 use Rattle.csv.specs.Reading.{Reached, strip_bom}
 use Rattle.cb_measure.proofs.records.opened.Goals as goal
 
