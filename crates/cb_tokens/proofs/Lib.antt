@@ -23,3 +23,4 @@ pub mod Decided
 pub mod OneToken
 pub mod KindsOfBytes
 pub mod SomeCut
+pub mod QuietEnds

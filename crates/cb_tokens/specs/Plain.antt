@@ -1,9 +1,9 @@
 -- Bytes that are cut into white space and tokens alone.
-use Rattle.std.specs.Prelude.{◌≡◌, ℕ, ◌==◌, ◌||◌, Bool, true, false, not, List, ◌∷◌, take, drop}
+use Rattle.std.specs.Prelude.{◌≡◌, ℕ, ◌-◌, ◌<◌, ◌==◌, ◌||◌, Bool, true, false, not, List, ◌∷◌, take, drop, slice_index}
 use Rattle.std.specs.List.{flat_map, list_all}
 use Rattle.cb_lines.specs.declared.mark.Mark.{Mark}
 use Rattle.cb_lines.specs.Lines.{StandOn}
-use Rattle.cb_tokens.specs.Forms.{is_line_feed, is_quote}
+use Rattle.cb_tokens.specs.Forms.{is_white, is_line_feed, is_quote}
 use Rattle.cb_tokens.specs.Cut.{Piece, Cuts}
 use Rattle.cb_tokens.specs.Logical.{token_marks}
 use Rattle.cb_tokens.specs.declared.token.TokenKind.{TokenKind}
@@ -13,6 +13,16 @@ use Rattle.cb_tokens.specs.declared.token.PieceKind.TheVariants as kinds
 -- no line end, no quote and no comment begins with the byte (own)
 unfoldable pub is_quiet : ℕ → Bool
 is_quiet byte = not (is_line_feed byte || is_quote byte || (byte == 47))
+
+-- white space ends before a place (own)
+abbrev pub EndsWhite : List ℕ → ℕ → Type 0
+EndsWhite bytes n = (is_white (slice_index bytes (n - 1)) ≡ true) × (is_white (slice_index bytes n) ≡ false)
+
+-- white space ends there behind quiet bytes alone (own)
+pub record IsQuietEnd (bytes : List ℕ) (n : ℕ) : Type 0 where
+  pub some : 0 < n
+  pub quiet : (k : ℕ) → k < n → is_quiet (slice_index bytes k) ≡ true
+  pub ends : EndsWhite bytes n
 
 -- white space or a token (own)
 abbrev pub is_plain : PieceKind → Bool

@@ -5,7 +5,7 @@ ghost use Rattle.cb_lines.specs.declared.mark.Mark.{Mark};
 ghost use Rattle.cb_lines.specs.Marks.{bytes_of, is_line_feed};
 ghost use Rattle.cb_tokens.specs.Cut.{StandsFirst};
 ghost use Rattle.cb_tokens.specs.Forms.{is_white};
-ghost use Rattle.cb_tokens.specs.Plain.{is_quiet, CutsPlain};
+ghost use Rattle.cb_tokens.specs.Plain.{is_quiet, EndsWhite, IsQuietEnd, CutsPlain};
 ghost use Rattle.cb_tokens.specs.inner.Breaks.{is_apart, IsBreak, IsTokenAt, IsPlainOf};
 ghost use Rattle.cb_tokens.specs.declared.first.First.{First};
 ghost use Rattle.cb_tokens.specs.declared.token.PieceKind.{PieceKind};
@@ -70,7 +70,8 @@ pub fn begins_with_hash(bytes: &[u8]) -> bool
 fn ends_white(bytes: &[u8], at: usize) -> bool
     requires some { 0 < at }
     requires within { at < length bytes.now }
-    ensures yes { result ≡ true → (is_white (slice_index bytes.now (at - 1)) ≡ true) × (is_white (slice_index bytes.now at) ≡ false) }
+    ensures yes { result ≡ true → EndsWhite bytes.now at }
+    ensures no { result ≡ false → EndsWhite bytes.now at → ⊥ }
 {
     is_white(bytes[at - 1]) && !is_white(bytes[at])
 }
@@ -79,7 +80,8 @@ fn ends_white(bytes: &[u8], at: usize) -> bool
 fn last_end_of_white(bytes: &[u8], from: usize, to: usize) -> usize
     requires { (from ≤ to) × (to < length bytes.now) }
     ensures within { (from ≤ result) × (result ≤ to) }
-    ensures ends { from < result → (is_white (slice_index bytes.now (result - 1)) ≡ true) × (is_white (slice_index bytes.now result) ≡ false) }
+    ensures ends { from < result → EndsWhite bytes.now result }
+    ensures last { (n : ℕ) → result < n → n ≤ to → EndsWhite bytes.now n → ⊥ }
 {
     let mut at = to;
     'places: while at > from {
@@ -120,6 +122,7 @@ fn last_break(bytes: &[u8], from: usize, seen: usize, end: usize) -> usize
     ensures within { (from ≤ result) × (result ≤ seen) × (result < end) }
     ensures stops { from < result → IsBreak (drop from bytes.now) (result - from) }
     ensures line { seen < end → slice_index bytes.now seen ≡ 10 → result ≡ seen }
+    ensures last { (n : ℕ) → result < n → n ≤ seen → n < end → EndsWhite bytes.now n → ⊥ }
 {
     if seen == from {
         return from;
@@ -184,13 +187,15 @@ fn tokens_over(bytes: &[u8], from: usize, over: usize, end: usize) -> usize
 }
 
 /// The bytes at the front up to a place that no piece goes over, among the first so many: a line end, the begin of a comment, or else
-/// the begin of the first token that does not end among them. It goes past quotes, and past slashes that begin no comment.
+/// the begin of the first token that does not end among them. It goes past quotes, and past slashes that begin no comment; at least
+/// it goes to each end of white space up to which no byte is a line end, a quote or a slash.
 pub fn plain_stretch(bytes: &[u8], end: usize) -> Stretch
     requires { end ≤ length bytes.now }
     ensures seen { result.seen < end → is_quiet (slice_index bytes.now result.seen) ≡ false }
     ensures within { (result.len ≤ result.seen) × (result.seen ≤ end) }
     ensures line { is_white (slice_index bytes.now 0) ≡ false → result.seen < end → slice_index bytes.now result.seen ≡ 10 → result.len ≡ result.seen }
     ensures inside { 0 < result.len → result.len < end }
+    ensures goes { is_white (slice_index bytes.now 0) ≡ false → (n : ℕ) → n < end → IsQuietEnd bytes.now n → n ≤ result.len }
     ensures no_feed { (k : ℕ) → k < result.seen → is_line_feed (slice_index bytes.now k) ≡ false }
     ensures cut { (ms : List Mark) → bytes.now ≡ bytes_of ms → 0 < result.len → CutsPlain ms result.len }
 {

@@ -13,7 +13,7 @@ use Rattle.cb_tree.specs.declared.node.NodeKind.{NodeKind}
 use Rattle.cb_tree.specs.declared.node.NodeKind.TheVariants.{Once, Other}
 use Rattle.cb_tree.specs.Kinds.{is_hash, kind_of, kind_of_name, begins_with_name}
 use Rattle.cb_tree.specs.Roles.{is_line}
-use Rattle.cb_tree.specs.Nodes.{Node, nodes_of, line_before, join_text, directive_node, text_node}
+use Rattle.cb_tree.specs.Nodes.{nodes_of, line_before, join_text, directive_node, text_node}
 use Rattle.cb_tree.specs.inner.Reads.{Brief, Directive, Run, node_in_brief, solid, run_before, briefs_of, piece_nodes}
 use Rattle.cb_tree.specs.inner.Reads as inner
 use Rattle.cb_tree.proofs.LineUnions.{lines_of_both}

@@ -1,4 +1,5 @@
-use Rattle.std.proofs.Common.{◌≡◌, ◌==◌, ℕ, ◌-◌, ◌<◌, false, slice_index}
+use Rattle.std.proofs.Common.{◌≡◌, ◌⊎◌, ◌==◌, ℕ, ◌-◌, ◌<◌, ◌≤◌, false, slice_index}
+use Rattle.cb_tokens.specs.Plain.{IsQuietEnd}
 use Rattle.cb_tokens.specs.inner.Breaks.{IsPlainOf}
 use Rattle.cb_tokens.proofs.plain.plain_stretch.Given as goal
 
@@ -6,6 +7,7 @@ abbrev pub invariant-runs : goal.invariant-runs
 invariant-runs l = record {
   inside : l.at < l.end;
   plain : IsPlainOf l.bytes l.at;
+  goes : (n : ℕ) → n < l.end → IsQuietEnd l.bytes n → (l.at ≡ 0) ⊎ (n ≤ l.at);
   no_feed : (k : ℕ) → k < l.at → (slice_index l.bytes k == 10) ≡ false;
 }
 
