@@ -9,7 +9,7 @@ use Rattle.cb_cluster.specs.declared.link.Link.{Link}
 use Rattle.cb_cluster.specs.Links.{IsAt}
 use Rattle.cb_cluster.specs.Names.{name_of, left_name, right_name}
 use Rattle.cb_cluster.specs.Merging.{comes_first, AreClosest, IsOneCluster}
-use Rattle.cb_cluster.specs.Ranking.{within_rank, precedes}
+use Rattle.cb_cluster.specs.Inner.{within_rank, precedes}
 use Rattle.cb_cluster.proofs.Orders.{precedes-order}
 use Rattle.std.proofs.lemmas.List.MinMax.{IsFirstBest-none, IsFirstBest-keeps, IsFirstBest-takes}
 

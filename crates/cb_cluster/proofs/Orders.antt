@@ -8,7 +8,7 @@ use Rattle.cb_diverge.specs.declared.fraction.Fraction.{Fraction}
 use Rattle.cb_diverge.specs.Distances.{is_less}
 use Rattle.cb_cluster.specs.declared.link.Link.{Link}
 use Rattle.cb_cluster.specs.Names.{left_name, right_name}
-use Rattle.cb_cluster.specs.Ranking.{then_by, within_rank, by_rank, by_distance, by_left, by_right, precedes}
+use Rattle.cb_cluster.specs.Inner.{then_by, within_rank, by_rank, by_distance, by_left, by_right, precedes}
 
 one_way_bits : (fab fba gab gba : Bool) → (fab ≡ true → fba ≡ false) → (gab ≡ true → gba ≡ false)
     → (fab || (not fba && gab)) ≡ true → (fba || (not fab && gba)) ≡ false

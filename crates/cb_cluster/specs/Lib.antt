@@ -2,4 +2,4 @@ pub mod Links
 pub mod Names
 pub mod Merging
 pub mod Chains
-pub mod Ranking
+pub mod Inner

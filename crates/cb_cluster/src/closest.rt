@@ -5,7 +5,7 @@ ghost use Rattle.cb_diverge.specs.Distances.{is_less};
 ghost use Rattle.cb_cluster.specs.Links.{IsPair};
 ghost use Rattle.cb_cluster.specs.Names.{left_name as left_in, right_name as right_in};
 ghost use Rattle.cb_cluster.specs.Merging.{AreClosest, IsOneCluster};
-ghost use Rattle.cb_cluster.specs.Ranking.{precedes as comes_before};
+ghost use Rattle.cb_cluster.specs.Inner.{precedes as comes_before};
 
 use crate::clusters::name_of;
 use crate::link::Link;
@@ -39,7 +39,7 @@ fn right_name(names: &[u32], link: &Link) -> u32
 }
 
 /// Whether a link comes before another one: those between two clusters first, then by distance, then by the two clusters.
-#[tactic(auto, using(std::proofs::lemmas::Bool::Decides::nat_tests), unfolding(crate::specs::Ranking::precedes))]
+#[tactic(auto, using(std::proofs::lemmas::Bool::Decides::nat_tests), unfolding(crate::specs::Inner::precedes))]
 fn precedes(names: &[u32], some: &Link, other: &Link) -> bool
     requires some { IsPair (length names.now) some.now }
     requires other { IsPair (length names.now) other.now }

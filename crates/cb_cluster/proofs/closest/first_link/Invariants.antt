@@ -1,5 +1,5 @@
 use Rattle.std.specs.List.{IsFirstBest}
-use Rattle.cb_cluster.specs.Ranking.{precedes as comes_before}
+use Rattle.cb_cluster.specs.Inner.{precedes as comes_before}
 use Rattle.cb_cluster.proofs.closest.first_link.Given as goal
 
 abbrev pub invariant-loop-at : goal.invariant-loop-at
