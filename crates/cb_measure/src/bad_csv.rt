@@ -3,11 +3,13 @@ use cb_paths::NoMemory;
 use std::alloc::{AllocError, AllocFailed};
 use thiserror::Error;
 
-/// Why a file is no file of measurements: the first fault by rows, and in a row the first of `Header`, `TooMany` for the number of
-/// rows, `Fields`, `Name`, `TooMany` for the number of platforms, `Fom`. Rows are numbered from 1, the header first.
+/// Why a file is no file of measurements: the first fault by rows, and in a row the first of `Header`, `TooMany` for
+/// the number of rows, `Fields`, `Name`, `TooMany` for the number of platforms, `Fom`. Rows are numbered from 1, the
+/// header first.
 #[derive(Clone, Copy, Debug, PartialEq, Eq, Error)]
 pub enum BadCsv {
-    /// There is no header, or one of the names `problem`, `platform`, `application` and `fom` is missing in it or stands twice.
+    /// There is no header, or one of the names `problem`, `platform`, `application` and `fom` is missing in it or
+    /// stands twice.
     #[error("one of the columns problem, platform, application and fom is missing or stands twice")]
     Header,
     /// The row has another number of fields than the header.

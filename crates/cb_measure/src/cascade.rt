@@ -130,9 +130,9 @@ fn steps_on(
 }
 
 impl Rows {
-    /// The cascade of an application for a problem: the platforms with a row of the problem by falling exact efficiency, those on which the
-    /// application fails last, and platforms of one efficiency by their names. Each step has the portability over its platform and those of
-    /// the steps before it.
+    /// The cascade of an application for a problem: the platforms with a row of the problem by falling exact
+    /// efficiency, those on which the application fails last, and platforms of one efficiency by their names. Each
+    /// step has the portability over its platform and those of the steps before it.
     #[tactic(auto, unfolding(crate::specs::Cascade::cascade_of, crate::specs::Cascade::falling, crate::specs::Metrics::platforms_of))]
     pub fn cascade(
         &self,

@@ -1,4 +1,5 @@
-//! Measurements of applications on platforms, read from CSV, and what they say: efficiency, performance portability and cascades.
+//! Measurements of applications on platforms, read from CSV, and what they say: efficiency, performance portability
+//! and cascades.
 #![tactic(auto)]
 
 mod bad_csv;

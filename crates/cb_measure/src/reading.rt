@@ -47,7 +47,8 @@ fn meet(alloc: Global, platforms: &mut BTreeSet<Bytes>, platform: &[u8]) -> Resu
     Ok(platforms.len() <= PLATFORM_LIMIT)
 }
 
-/// The row of four fields behind other rows, or its first fault. `platforms` are those of the rows before, and then of this one too.
+/// The row of four fields behind other rows, or its first fault. `platforms` are those of the rows before, and then
+/// of this one too.
 fn row_of_fields(
     alloc: Global,
     number: u32,

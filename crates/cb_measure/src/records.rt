@@ -18,7 +18,8 @@ pub(crate) fn opened(alloc: Global, text: &[u8]) -> Reader<&[u8]>
         .from_reader(alloc, text)
 }
 
-/// Reads the next record, and tells whether there was one. A slice has no faults of its own, so that memory alone is refused.
+/// Reads the next record, and tells whether there was one. A slice has no faults of its own, so that memory alone is
+/// refused.
 pub(crate) fn next(reader: &mut Reader<&[u8]>, record: &mut ByteRecord) -> Result<bool, NoMemory>
     ensures found { result ≡ Ok true → (text : List ℕ) (seen : List (List (List ℕ))) → IsBehind reader.old text seen → IsBehind reader.new text (seen ++ fields_of record.new ∷ []) }
     ensures ended { result ≡ Ok false → (text : List ℕ) (seen : List (List (List ℕ))) → IsBehind reader.old text seen → records_of text ≡ seen }

@@ -10,8 +10,8 @@ const EXAMPLE: &[u8] = b"problem,platform,application,fom\np,a,x,1\np,b,x,2\np,b
 /// The same with a failed run of x on c.
 const FAILING: &[u8] = b"problem,platform,application,fom\np,a,x,1\np,b,x,2\np,b,y,1\np,c,x,0\n";
 
-/// Three platforms on which x takes 2, 4 and 5 of the best time 1, 1 and 2: the efficiencies are 1/2, 1/4 and 2/5, and their harmonic mean is
-/// 3 / (2 + 4 + 5/2) = 6/17 = 0.352941176470(588..).
+/// Three platforms on which x takes 2, 4 and 5 of the best time 1, 1 and 2: the efficiencies are 1/2, 1/4 and 2/5,
+/// and their harmonic mean is 3 / (2 + 4 + 5/2) = 6/17 = 0.352941176470(588..).
 const WORKED: &[u8] =
     b"fom,other,application,platform,problem\n2,-,x,a,p\n1.0,-,y,a,p\n4,-,x,b,p\n3,-,z,b,p\n1,-,z,b,p\n5,,x,c,p\n2,,y,c,p\n7,,y,c,p\n";
 
@@ -242,8 +242,8 @@ fn falls(alloc: Global, text: &[u8], wanted: &[(&[u8], u64, u64)]) -> Result<boo
     Ok(steps.len() == wanted.len() && same == wanted.len())
 }
 
-/// Two efficiencies of one grid value, 666666666666: that on b, 200000000/299999999.999999, is a little above that on a, 2/3, so that b stands
-/// first.
+/// Two efficiencies of one grid value, 666666666666: that on b, 200000000/299999999.999999, is a little above that on
+/// a, 2/3, so that b stands first.
 const CLOSE: &[u8] =
     b"problem,platform,application,fom\np,a,y,2\np,a,x,3\np,b,y,200000000\np,b,x,299999999.999999\n";
 
