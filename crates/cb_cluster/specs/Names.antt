@@ -28,5 +28,6 @@ joined names left right = map (λ name. if name == right then left else name) na
 abbrev pub left_name : List ℕ → Link → ℕ
 left_name names link = min (name_of names link.left) (name_of names link.right)
 
+-- the other one of the two (own)
 abbrev pub right_name : List ℕ → Link → ℕ
 right_name names link = max (name_of names link.left) (name_of names link.right)

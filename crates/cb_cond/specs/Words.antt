@@ -8,15 +8,16 @@ use Rattle.cb_cond.specs.declared.symbol.Operator.TheVariants.{Or, And, BitOr, B
 use Rattle.cb_cond.specs.declared.symbol.Symbol.{Symbol}
 use Rattle.cb_cond.specs.declared.symbol.Symbol.TheVariants.{Number, Between, Exclamation, Tilde, OpenParenthesis, CloseParenthesis, Question, Colon, Stray}
 
--- a text and what it is to the grammar
+-- a text and what it is to the grammar (own)
 pub record Row : Type 0 where
   pub text : List ℕ
   pub symbol : Symbol
 
+-- the text is this one (own)
 abbrev pub row : String → Symbol → Row
 row text symbol = record { text = codes text; symbol = symbol }
 
--- what a text is by the first row that has it, or else the symbol that is given
+-- what a text is by the first row that has it, or else the symbol that is given (own)
 unfoldable pub looked_up : List ℕ → List Row → Symbol → Symbol
 looked_up text [] s = s
 looked_up text (r ∷ rs) s = if bytes_eq text r.text then r.symbol else looked_up text rs s
@@ -31,7 +32,7 @@ punctuators =
     ∷ row "<<" (Between ShiftLeft) ∷ row ">>" (Between ShiftRight) ∷ row "+" (Between Add) ∷ row "-" (Between Subtract)
     ∷ row "*" (Between Multiply) ∷ row "/" (Between Divide) ∷ row "%" (Between Remainder) ∷ []
 
--- what a punctuator is: any other is in no form of the grammar
+-- what a punctuator is: any other is in no form of the grammar (6.6; own)
 unfoldable pub punctuator : List ℕ → Symbol
 punctuator text = looked_up text punctuators Stray
 

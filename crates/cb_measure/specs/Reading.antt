@@ -31,7 +31,7 @@ row_of_fields before number problem platform application fom =
     else if nat_lt 64 (length (names_of (platforms_in before ++ platform ∷ []))) then Err (TooMany number)
     else measured number problem platform application (figure fom)
 
--- the row of a record behind other rows, or its first fault; the header is row 1, and 100,000 rows may follow it (own)
+-- the row of a record behind other rows, or its first fault; the header counts as the first row, and 100,000 may follow it (own)
 unfoldable pub row_of : Columns → List Row → List (List ℕ) → Result Row BadCsv
 row_of columns before record' =
     if nat_le 100000 (length before) then Err (TooMany (length before + 2))

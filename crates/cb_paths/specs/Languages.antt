@@ -20,7 +20,7 @@ cxx_suffixes =
     ∷ codes "hip" ∷ codes "h" ∷ codes "hh" ∷ codes "hpp" ∷ codes "hxx" ∷ codes "h++" ∷ codes "H" ∷ codes "inl" ∷ codes "ipp"
     ∷ codes "tpp" ∷ codes "tcc" ∷ codes "inc" ∷ codes "def" ∷ []
 
--- one of these
+-- one of these (own)
 unfoldable pub is_cxx : List ℕ → Bool
 is_cxx suffix = list_any (λ s. bytes_eq suffix s) cxx_suffixes
 
@@ -30,7 +30,7 @@ language_of_suffix suffix =
     if bytes_eq suffix (codes "c") then Some C
     else (if is_cxx suffix then Some Cxx else None)
 
--- that of the suffix, if there is one
+-- that of the suffix, if there is one (own)
 abbrev pub suffix_language : Option (List ℕ) → Option Language
 suffix_language None = None
 suffix_language (Some suffix) = language_of_suffix suffix

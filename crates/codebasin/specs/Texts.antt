@@ -5,7 +5,7 @@ use Rattle.cb_tree.specs.declared.fault.SourceKind.{SourceKind}
 use Rattle.cb_tree.specs.declared.fault.SourceKind.TheVariants.{OpenComment, StrayElif, StrayElse, StrayEndif, AfterElse, OpenIf, TooDeep, TooLarge}
 use Rattle.cb_tree.specs.declared.fault.BadSource.{BadSource}
 
--- a text and its line end
+-- a text and its line end (own)
 abbrev pub line_text : List ℕ → List ℕ
 line_text text = text ++ (10 ∷ [])
 

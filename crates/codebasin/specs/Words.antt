@@ -14,7 +14,7 @@ joined_name [] = None
 joined_name (a ∷ []) = None
 joined_name (a ∷ b ∷ name) = if (a == 45) && (b == 68) then definable name else None
 
--- a name before others, where all of them are there
+-- a name before others, where all of them are there (own)
 abbrev pub before : Option (List ℕ) → Option (List (List ℕ)) → Option (List (List ℕ))
 before None names = None
 before (Some name) None = None
