@@ -1,5 +1,5 @@
 -- The different heights of merges, one after another.
-use Rattle.std.proofs.Common.{◌≡◌, ℕ, ◌+◌, ◌<◌, ◌≤◌, Bool, true, false, List, [], ◌∷◌, ◌++◌, length, get_or, drop, refl, sym, ap, ◌∙◌, arith}
+use Rattle.std.proofs.Common.{◌≡◌, ℕ, ◌+◌, ◌<◌, ◌≤◌, true, false, List, [], ◌∷◌, ◌++◌, length, get_or, drop, sym, ap, ◌∙◌, arith}
 use Rattle.std.specs.List.{flat_map}
 use Rattle.std.proofs.lemmas.Bool.{cond-true, cond-false}
 use Rattle.std.proofs.lemmas.List.{append-nil, append_assoc, drop_more, drop_all}
@@ -29,7 +29,7 @@ pub cuts-more : (g : Fraction → List ℕ) (all old text : List ℕ) (last : Fr
 cuts-more g all old text last ms i x h e so_far less adds =
     so_far ∙ ap (λ r. old ++ flat_map g (heights_above last r)) (next ms i x h e)
     ∙ ap (λ hs. old ++ flat_map g hs)
-        (cond-true (is_less last x.height) (x.height ∷ heights_above x.height (drop (i + 1) ms)) (heights_above last (drop (i + 1) ms)) less)
+    (cond-true (is_less last x.height) (x.height ∷ heights_above x.height (drop (i + 1) ms)) (heights_above last (drop (i + 1) ms)) less)
     ∙ sym (append_assoc old (g x.height) (flat_map g (heights_above x.height (drop (i + 1) ms))))
     ∙ ap (λ t. t ++ flat_map g (heights_above x.height (drop (i + 1) ms))) (sym adds)
 
@@ -39,7 +39,7 @@ pub cuts-same : (g : Fraction → List ℕ) (all old : List ℕ) (last : Fractio
 cuts-same g all old last ms i x h e so_far less =
     so_far ∙ ap (λ r. old ++ flat_map g (heights_above last r)) (next ms i x h e)
     ∙ ap (λ hs. old ++ flat_map g hs)
-        (cond-false (is_less last x.height) (x.height ∷ heights_above x.height (drop (i + 1) ms)) (heights_above last (drop (i + 1) ms)) less)
+    (cond-false (is_less last x.height) (x.height ∷ heights_above x.height (drop (i + 1) ms)) (heights_above last (drop (i + 1) ms)) less)
 
 pub cuts-end : (g : Fraction → List ℕ) (all text : List ℕ) (last : Fraction) (ms : List Merge) (i : ℕ) → length ms ≤ i
     → all ≡ text ++ flat_map g (heights_above last (drop i ms)) → text ≡ all

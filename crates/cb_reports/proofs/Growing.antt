@@ -1,10 +1,11 @@
 -- Texts of lists with one item more.
-use Rattle.std.proofs.Common.{◌≡◌, ℕ, ◌+◌, ◌<◌, List, [], ◌∷◌, ◌++◌, length, map, get_or, take, refl, sym, ap, ◌∙◌, suc, zero, arith, eqb, cond, codes}
+use Rattle.std.proofs.Common.{◌≡◌, ℕ, ◌+◌, ◌<◌, List, [], ◌∷◌, ◌++◌, length, map, get_or, take, sym, ap, ◌∙◌, suc, arith, eqb, codes}
 use Rattle.std.specs.List.{flat_map}
 use Rattle.std.proofs.lemmas.Bool.{cond-false, ne_eqb}
-use Rattle.std.proofs.lemmas.List.{append-nil, append_assoc, take_more, length-take-le, length-map, map-append, flat_map_more}
+use Rattle.std.proofs.lemmas.List.{append-nil, append_assoc, take_more, length-take-le, length-map, map-append}
 use Rattle.std.proofs.lemmas.List.Concat.{flat_map-append}
-use Rattle.cb_reports.specs.Words.{listed, separator, numbered}
+use Rattle.cb_reports.specs.Inner.{separator}
+use Rattle.cb_reports.specs.Words.{listed, numbered}
 
 numbered-append : {A : Type 0} (f : ℕ → A → List ℕ) (n : ℕ) (xs ys : List A) → numbered f n (xs ++ ys) ≡ numbered f n xs ++ numbered f (n + length xs) ys
 numbered-append f n [] ys = let e : n ≡ n + 0 = omega arith in ap (λ k. numbered f k ys) e

@@ -52,5 +52,5 @@ runs_of-spans (s ∷ ss) h =
     let end : s.first + (s.last - s.first) ≡ s.last = omega arith in
     ap (λ k. runs_of (range_with_len s.first k ++ flat_map span_lines ss)) n
     ∙ run_of-range s.first (s.last - s.first) (flat_map span_lines ss) ss (runs_of-spans ss (rest-maximal s ss h))
-        (behind-same (s.first + (s.last - s.first)) s.last ss (sym end) (behind-maximal s ss h))
+    (behind-same (s.first + (s.last - s.first)) s.last ss (sym end) (behind-maximal s ss h))
     ∙ ap (λ b. record { first = s.first; last = b } ∷ ss) end

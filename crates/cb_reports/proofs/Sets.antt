@@ -1,18 +1,19 @@
 -- The platforms of a set, found one after another; and the rows of a setmap.
-use Rattle.std.proofs.Common.{◌≡◌, ℕ, ◌+◌, ◌-◌, ◌^◌, ◌<◌, ◌≤◌, Bool, true, false, ◌||◌, cond, eqb, leb, List, [], ◌∷◌, ◌++◌, length, map, filter, get_or, refl, sym, ap, ◌∙◌, inl, inr, zero, suc, arith, sum_by}
+use Rattle.std.proofs.Common.{◌≡◌, ℕ, ◌+◌, ◌-◌, ◌^◌, ◌<◌, ◌≤◌, Bool, true, false, ◌||◌, cond, eqb, leb, List, [], ◌∷◌, ◌++◌, length, map, filter, get_or, refl, sym, ap, ◌∙◌, inl, inr, zero, suc, arith}
 use Rattle.std.specs.List.{range_with_len}
 use Rattle.std.proofs.lemmas.Bool.{cases_Bool, cond-true, cond-false, eq-eqb, ne_eqb, or_left, or_from}
-use Rattle.std.proofs.lemmas.List.{append-nil, append_assoc, map-id, map-append, length-append, length-map, get_or-map, get_or_default}
+use Rattle.std.proofs.lemmas.List.{append-nil, append_assoc, map-id, map-append, length-map, get_or-map, get_or_default}
 use Rattle.std.proofs.lemmas.List.FromFn.{map-range_with_len_more}
 use Rattle.std.proofs.lemmas.List.Elements.{filter-append}
 use Rattle.std.proofs.lemmas.List.Sums.{get_or-le-sum_by}
 use Rattle.cb_lines.specs.Lines.{has_line}
 use Rattle.cb_sets.specs.declared.platform_set.PlatformSet.{PlatformSet}
 use Rattle.cb_sets.specs.declared.row.Row.{Row}
-use Rattle.cb_sets.specs.Sets.{members_below, members, platform_limit}
+use Rattle.cb_sets.specs.Sets.{members_below, members}
 use Rattle.cb_sets.specs.Tallies.{SetLines, lines_in, lines_where, is_any}
 use Rattle.cb_sets.specs.inner.Rows.{seen}
-use Rattle.cb_reports.specs.Words.{listed, separator}
+use Rattle.cb_reports.specs.Inner.{separator}
+use Rattle.cb_reports.specs.Words.{listed}
 use Rattle.cb_reports.proofs.Growing.{listed_push}
 
 range_more : (n : ℕ) → range_with_len 1 (n + 1) ≡ range_with_len 1 n ++ (n + 1) ∷ []
@@ -53,9 +54,9 @@ low zero bits x h = refl
 low (suc k) bits x h =
     let here : eqb (32 - k) x ≡ false = ne_eqb (32 - k) x (λ e. omega arith) in
     elim (cases_Bool (leb (2 ^ k) bits)) [
-        inl t ↦ ap (λ ms. has_line ms x) (cond-true (leb (2 ^ k) bits) ((32 - k) ∷ members_below k (bits - 2 ^ k)) (members_below k bits) t)
-            ∙ or_from (eqb (32 - k) x) (has_line (members_below k (bits - 2 ^ k)) x) here (low k (bits - 2 ^ k) x (omega arith))
-        | inr f ↦ ap (λ ms. has_line ms x) (cond-false (leb (2 ^ k) bits) ((32 - k) ∷ members_below k (bits - 2 ^ k)) (members_below k bits) f) ∙ low k bits x (omega arith)
+      | inl t ↦ ap (λ ms. has_line ms x) (cond-true (leb (2 ^ k) bits) ((32 - k) ∷ members_below k (bits - 2 ^ k)) (members_below k bits) t)
+          ∙ or_from (eqb (32 - k) x) (has_line (members_below k (bits - 2 ^ k)) x) here (low k (bits - 2 ^ k) x (omega arith))
+      | inr f ↦ ap (λ ms. has_line ms x) (cond-false (leb (2 ^ k) bits) ((32 - k) ∷ members_below k (bits - 2 ^ k)) (members_below k bits) f) ∙ low k bits x (omega arith)
     ]
 
 below : (k bits a : ℕ) → a + k ≡ 33 → filter (has_line (members_below k bits)) (range_with_len a k) ≡ members_below k bits
@@ -65,21 +66,21 @@ below (suc k) bits a h =
     let e : 32 - k ≡ a = omega arith in
     let rest = range_with_len (a + 1) k in
     elim (cases_Bool (leb (2 ^ k) bits)) [
-        inl t ↦ (
-            let ms = members_below k (bits - 2 ^ k) in
-            let is : members_below (suc k) bits ≡ (32 - k) ∷ ms = cond-true (leb (2 ^ k) bits) ((32 - k) ∷ ms) (members_below k bits) t in
-            let p : ℕ → Bool = has_line ((32 - k) ∷ ms) in
-            let same = filter-same p (has_line ms) (a + 1) k (λ x le. ap (λ (u : Bool). u || has_line ms x) (ne_eqb (32 - k) x (λ f. omega arith))) in
-            ap (λ ns. filter (has_line ns) (range_with_len a (suc k))) is
-            ∙ cond-true (p a) (a ∷ filter p rest) (filter p rest) (or_left (eqb (32 - k) a) (has_line ms a) (eq-eqb (32 - k) a e))
-            ∙ ap (λ r. a ∷ r) (same ∙ below k (bits - 2 ^ k) (a + 1) (omega arith)) ∙ ap (λ y. y ∷ ms) (sym e) ∙ sym is)
-        | inr f ↦ (
-            let ms = members_below k bits in
-            let is : members_below (suc k) bits ≡ ms = cond-false (leb (2 ^ k) bits) ((32 - k) ∷ members_below k (bits - 2 ^ k)) ms f in
-            let p : ℕ → Bool = has_line ms in
-            ap (λ ns. filter (has_line ns) (range_with_len a (suc k))) is
-            ∙ cond-false (p a) (a ∷ filter p rest) (filter p rest) (low k bits a (omega arith))
-            ∙ below k bits (a + 1) (omega arith) ∙ sym is)
+      | inl t ↦ (
+          let ms = members_below k (bits - 2 ^ k) in
+          let is : members_below (suc k) bits ≡ (32 - k) ∷ ms = cond-true (leb (2 ^ k) bits) ((32 - k) ∷ ms) (members_below k bits) t in
+          let p : ℕ → Bool = has_line ((32 - k) ∷ ms) in
+          let same = filter-same p (has_line ms) (a + 1) k (λ x le. ap (λ (u : Bool). u || has_line ms x) (ne_eqb (32 - k) x (λ f. omega arith))) in
+          ap (λ ns. filter (has_line ns) (range_with_len a (suc k))) is
+          ∙ cond-true (p a) (a ∷ filter p rest) (filter p rest) (or_left (eqb (32 - k) a) (has_line ms a) (eq-eqb (32 - k) a e))
+          ∙ ap (λ r. a ∷ r) (same ∙ below k (bits - 2 ^ k) (a + 1) (omega arith)) ∙ ap (λ y. y ∷ ms) (sym e) ∙ sym is)
+      | inr f ↦ (
+          let ms = members_below k bits in
+          let is : members_below (suc k) bits ≡ ms = cond-false (leb (2 ^ k) bits) ((32 - k) ∷ members_below k (bits - 2 ^ k)) ms f in
+          let p : ℕ → Bool = has_line ms in
+          ap (λ ns. filter (has_line ns) (range_with_len a (suc k))) is
+          ∙ cond-false (p a) (a ∷ filter p rest) (filter p rest) (low k bits a (omega arith))
+          ∙ below k bits (a + 1) (omega arith) ∙ sym is)
     ]
 
 pub all_members : (set : PlatformSet) (n : ℕ) → n ≡ 32 → filter (has_line (members set)) (range_with_len 1 n) ≡ members set

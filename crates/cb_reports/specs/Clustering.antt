@@ -20,7 +20,7 @@ distance_line names l =
 abbrev pub merge_line : List (List ℕ) → ℕ → Merge → List ℕ
 merge_line names number m =
     line (codes "merge " ++ decimal number ++ codes " " ++ set_text names m.left ++ codes " " ++ set_text names m.right ++ codes " "
-        ++ four_places (grid_of m.height))
+    ++ four_places (grid_of m.height))
 
 -- a set behind a space (own)
 abbrev pub spaced_set : List (List ℕ) → List ℕ → List ℕ

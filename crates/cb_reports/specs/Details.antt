@@ -1,5 +1,5 @@
 -- The details of notes as printable text.
-use Rattle.std.specs.Prelude.{ℕ, ◌+◌, ◌/◌, ◌%◌, ◌==◌, ◌&&◌, nat_lt, nat_le, if◌then◌else◌, List, [], ◌∷◌, ◌++◌, codes}
+use Rattle.std.specs.Prelude.{ℕ, ◌+◌, ◌/◌, ◌%◌, ◌==◌, ◌&&◌, nat_lt, nat_le, if◌then◌else◌, List, [], ◌∷◌, codes}
 use Rattle.std.specs.List.{flat_map}
 
 -- a hexadecimal digit in lower case (own)
@@ -11,7 +11,7 @@ abbrev pub escaped : ℕ → List ℕ
 escaped byte =
     if byte == 92 then 92 ∷ 92 ∷ []
     else (if nat_le 32 byte && nat_le byte 126 then byte ∷ []
-        else 92 ∷ 120 ∷ hex_digit (byte / 16) ∷ hex_digit (byte % 16) ∷ [])
+    else 92 ∷ 120 ∷ hex_digit (byte / 16) ∷ hex_digit (byte % 16) ∷ [])
 
 -- a detail; an empty one is a hyphen (own)
 abbrev pub detail_text : List ℕ → List ℕ

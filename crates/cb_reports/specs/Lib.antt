@@ -8,3 +8,4 @@ pub mod Kinds
 pub mod Files
 pub mod Summary
 pub mod Reports
+pub mod Inner

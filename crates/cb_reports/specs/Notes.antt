@@ -43,7 +43,7 @@ place_text row = row.path ++ codes ":" ++ (if row.node == 0 then codes "start" e
 abbrev pub note_line : NoteRow → List ℕ
 note_line row =
     line (codes "note " ++ place_text row ++ codes " " ++ kind_name row.kind ++ codes " " ++ detail_text row.detail
-        ++ codes " commands " ++ decimal row.commands ++ codes " first " ++ decimal row.first)
+    ++ codes " commands " ++ decimal row.commands ++ codes " first " ++ decimal row.first)
 
 -- a text, or another one where it is empty (own)
 abbrev pub or_else : List ℕ → List ℕ → List ℕ

@@ -1,5 +1,5 @@
 -- Lines, lists of names, and sets of platforms as text.
-use Rattle.std.specs.Prelude.{ℕ, ◌+◌, ◌-◌, ◌==◌, if◌then◌else◌, List, [], ◌∷◌, ◌++◌, codes, map, slice_index_or}
+use Rattle.std.specs.Prelude.{ℕ, ◌+◌, ◌-◌, List, [], ◌∷◌, ◌++◌, codes, map, slice_index_or}
 use Rattle.std.specs.List.{flat_map}
 
 -- a line: its text, and LF (own)
@@ -18,10 +18,6 @@ platform_name names platform = slice_index_or names (platform - 1) []
 -- a set of platforms: their names in braces (own)
 abbrev pub set_text : List (List ℕ) → List ℕ → List ℕ
 set_text names members = codes "{" ++ listed (map (platform_name names) members) ++ codes "}"
-
--- what stands before the text at a place of such a list (own)
-abbrev pub separator : ℕ → List ℕ
-separator at = if at == 0 then [] else codes ", "
 
 -- a text for each item, with its number (own)
 abbrev pub numbered : {A : Type 0} → (ℕ → A → List ℕ) → ℕ → List A → List ℕ

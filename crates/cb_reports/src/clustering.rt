@@ -76,7 +76,12 @@ fn add_classes(text: &mut Text, names: &[Bytes], classes: &[Members]) -> Result<
 }
 
 /// Adds a height and classes.
-fn add_height(text: &mut Text, names: &[Bytes], height: Fraction, classes: &[Members]) -> Result<(), NoMemory>
+fn add_height(
+    text: &mut Text,
+    names: &[Bytes],
+    height: Fraction,
+    classes: &[Members],
+) -> Result<(), NoMemory>
     ensures { OnOk result (text.new ≡ text.old ++ height_line names.now height classes.now) }
 {
     text.add(b"cut ")?;
@@ -86,7 +91,13 @@ fn add_height(text: &mut Text, names: &[Bytes], height: Fraction, classes: &[Mem
 }
 
 /// Adds a height with its classes.
-fn add_cut(text: &mut Text, alloc: Global, names: &[Bytes], pairs: &[Fraction], height: Fraction) -> Result<(), NoMemory>
+fn add_cut(
+    text: &mut Text,
+    alloc: Global,
+    names: &[Bytes],
+    pairs: &[Fraction],
+    height: Fraction,
+) -> Result<(), NoMemory>
     requires names { length names.now < 2 ^ 32 }
     requires pairs { length pairs.now ≡ length (pairs_of (length names.now)) }
     ensures { (ms : List Merge) → AreMerges (links_of (length names.now) pairs.now) (singles (length names.now)) ms
@@ -98,7 +109,13 @@ fn add_cut(text: &mut Text, alloc: Global, names: &[Bytes], pairs: &[Fraction], 
 }
 
 /// Adds the different heights of merges with their classes.
-fn add_cuts(text: &mut Text, alloc: Global, names: &[Bytes], pairs: &[Fraction], merges: &[Merge]) -> Result<(), NoMemory>
+fn add_cuts(
+    text: &mut Text,
+    alloc: Global,
+    names: &[Bytes],
+    pairs: &[Fraction],
+    merges: &[Merge],
+) -> Result<(), NoMemory>
     requires names { length names.now < 2 ^ 32 }
     requires pairs { length pairs.now ≡ length (pairs_of (length names.now)) }
     requires merges { AreMerges (links_of (length names.now) pairs.now) (singles (length names.now)) merges.now }
@@ -120,7 +137,11 @@ fn add_cuts(text: &mut Text, alloc: Global, names: &[Bytes], pairs: &[Fraction],
 }
 
 /// The whole report.
-pub(crate) fn clustering(alloc: Global, names: &[Bytes], pairs: &[Fraction]) -> Result<Text, NoMemory>
+pub(crate) fn clustering(
+    alloc: Global,
+    names: &[Bytes],
+    pairs: &[Fraction],
+) -> Result<Text, NoMemory>
     requires names { length names.now < 2 ^ 32 }
     requires pairs { length pairs.now ≡ length (pairs_of (length names.now)) }
     ensures { IfOk result (λ text. IsClusteringText names.now pairs.now text) }
@@ -136,7 +157,12 @@ pub(crate) fn clustering(alloc: Global, names: &[Bytes], pairs: &[Fraction]) -> 
 }
 
 /// Adds the distances, the merges and the classes of platforms.
-fn add_clusters(text: &mut Text, alloc: Global, names: &[Bytes], pairs: &[Fraction]) -> Result<(), NoMemory>
+fn add_clusters(
+    text: &mut Text,
+    alloc: Global,
+    names: &[Bytes],
+    pairs: &[Fraction],
+) -> Result<(), NoMemory>
     requires names { length names.now < 2 ^ 32 }
     requires pairs { length pairs.now ≡ length (pairs_of (length names.now)) }
     ensures { OnOk result ((ms : List Merge) × AreMerges (links_of (length names.now) pairs.now) (singles (length names.now)) ms

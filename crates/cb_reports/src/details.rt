@@ -11,7 +11,11 @@ fn hex_digit(number: u8) -> u8
     requires { number < 16 }
     ensures { result ≡ hex_digit_of number }
 {
-    if number < 10 { b'0' + number } else { 87 + number }
+    if number < 10 {
+        b'0' + number
+    } else {
+        87 + number
+    }
 }
 
 /// Adds a byte: itself where it is printable, but a backslash twice, and any other byte as its number.

@@ -84,11 +84,20 @@ fn add_file(text: &mut Text, alloc: Global, names: &[Bytes], file: &FileRow) -> 
     text.add_number(file.counted.count())?;
     text.end_line()?;
     add_used(text, names, file.used.as_slice())?;
-    add_lines(text, b"{}", &unused(alloc, &file.counted, file.used.as_slice())?)
+    add_lines(
+        text,
+        b"{}",
+        &unused(alloc, &file.counted, file.used.as_slice())?,
+    )
 }
 
 /// Adds sources.
-fn add_files(text: &mut Text, alloc: Global, names: &[Bytes], files: &[FileRow]) -> Result<(), NoMemory>
+fn add_files(
+    text: &mut Text,
+    alloc: Global,
+    names: &[Bytes],
+    files: &[FileRow],
+) -> Result<(), NoMemory>
     ensures { OnOk result (text.new ≡ text.old ++ flat_map (file_text names.now) files.now) }
 {
     for at in 0..files.len() {

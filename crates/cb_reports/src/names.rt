@@ -1,6 +1,7 @@
 //! Names of platforms and sets of them.
 ghost use Rattle.std.specs.Prelude.{◌≡◌, ◌++◌, [], slice_index_or, map, OnOk};
-ghost use Rattle.cb_reports.specs.Words.{platform_name as name_in, listed, separator, set_text};
+ghost use Rattle.cb_reports.specs.Inner.{separator};
+ghost use Rattle.cb_reports.specs.Words.{platform_name as name_in, listed, set_text};
 
 use crate::text::Text;
 use cb_paths::{Bytes, NoMemory};

@@ -122,7 +122,12 @@ fn add_notes(text: &mut Text, rows: &[NoteRow]) -> Result<(), NoMemory>
 }
 
 /// The whole report.
-pub(crate) fn notes(alloc: Global, databases: &[AbsentRow], idle: &[IdleRow], notes: &[NoteRow]) -> Result<Text, NoMemory>
+pub(crate) fn notes(
+    alloc: Global,
+    databases: &[AbsentRow],
+    idle: &[IdleRow],
+    notes: &[NoteRow],
+) -> Result<Text, NoMemory>
     ensures { IfOk result (λ text. text ≡ notes_text databases.now idle.now notes.now) }
 {
     let mut text = Text::new(alloc);

@@ -17,10 +17,7 @@ fn rounded(value: u64) -> u64
 fn add_two_digits(text: &mut Text, number: u64) -> Result<(), NoMemory>
     ensures { OnOk result (text.new ≡ text.old ++ two_digits number) }
 {
-    text.add(&[
-        b'0' + (number / 10 % 10) as u8,
-        b'0' + (number % 10) as u8,
-    ])
+    text.add(&[b'0' + (number / 10 % 10) as u8, b'0' + (number % 10) as u8])
 }
 
 /// Adds a grid value with four places.

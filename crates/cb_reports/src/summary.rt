@@ -179,7 +179,12 @@ fn add_convergence_line(text: &mut Text, pairs: &[Fraction]) -> Result<(), NoMem
 }
 
 /// The whole report.
-pub(crate) fn summary(alloc: Global, names: &[Bytes], setmap: &Setmap, pairs: &[Fraction]) -> Result<Text, NoMemory>
+pub(crate) fn summary(
+    alloc: Global,
+    names: &[Bytes],
+    setmap: &Setmap,
+    pairs: &[Fraction],
+) -> Result<Text, NoMemory>
     ensures { IfOk result (λ text. text ≡ summary_text names.now setmap.now pairs.now) }
 {
     let mut text = Text::new(alloc);

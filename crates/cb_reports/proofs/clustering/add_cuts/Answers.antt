@@ -1,7 +1,7 @@
-use Rattle.std.proofs.Common.{◌≡◌, ℕ, ◌<◌, List, length, get_or, sym, ap, ◌∙◌, arith}
+use Rattle.std.proofs.Common.{◌≡◌, ◌<◌, length, get_or, sym, ◌∙◌, arith}
 use Rattle.std.proofs.lemmas.Bool.Decides.{nat_tests}
 use Rattle.std.proofs.lemmas.List.{get_or_default}
-use Rattle.cb_reports.specs.Clustering.{cut_line, heights_of}
+use Rattle.cb_reports.specs.Clustering.{cut_line}
 use Rattle.cb_cluster.specs.declared.merge.Merge.{Merge}
 use Rattle.cb_reports.proofs.Cuts.{cuts-first, cuts-more, cuts-same, cuts-end}
 use Rattle.cb_reports.proofs.clustering.add_cuts.Goals as goal
@@ -23,11 +23,11 @@ loop-at-preserved c =
     let x : Merge = get_or ms at c.index-merges-at.result in
     let read : x ≡ get_or ms at x = get_or_default ms at c.index-merges-at.result x c.loop-at-test.true in
     elim c.if-less.branch [
-        then-less+in_ok-add_cut-2 w ↦ rw (w.text-is, w.last-is)
-            (cuts-more g _ c.loop-at.text w.add_cut-then-less.new.text c.loop-at.last ms at x c.loop-at-test.true read c.loop-at.invariant
-            (sym c.less.ensures ∙ w.if-less.true) (w.in_ok-add_cut-2.ensures ms c.requires.merges))
-        | else-less w ↦ rw (w.text-is, w.last-is)
-            (cuts-same g _ c.loop-at.text c.loop-at.last ms at x c.loop-at-test.true read c.loop-at.invariant (sym c.less.ensures ∙ w.if-less.false))
+      | then-less+in_ok-add_cut-2 w ↦ rw (w.text-is, w.last-is)
+          (cuts-more g _ c.loop-at.text w.add_cut-then-less.new.text c.loop-at.last ms at x c.loop-at-test.true read c.loop-at.invariant
+          (sym c.less.ensures ∙ w.if-less.true) (w.in_ok-add_cut-2.ensures ms c.requires.merges))
+      | else-less w ↦ rw (w.text-is, w.last-is)
+          (cuts-same g _ c.loop-at.text c.loop-at.last ms at x c.loop-at-test.true read c.loop-at.invariant (sym c.less.ensures ∙ w.if-less.false))
     ]
 
 pub returns : goal.returns

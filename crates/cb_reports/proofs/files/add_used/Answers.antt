@@ -1,4 +1,4 @@
-use Rattle.std.proofs.Common.{◌≡◌, ap, sym, ◌∙◌, ◌++◌, ◌+◌, ◌-◌, [], slice_index_or, arith}
+use Rattle.std.proofs.Common.{◌≡◌, ap, ◌∙◌, ◌++◌, ◌+◌, ◌-◌, [], slice_index_or, arith}
 use Rattle.cb_reports.specs.Files.{used_line, lines_line}
 use Rattle.cb_reports.proofs.Growing.{numbered_grows}
 use Rattle.cb_reports.proofs.files.add_used.Goals as goal

@@ -1,4 +1,4 @@
-use Rattle.std.proofs.Common.{◌≡◌, ℕ, Bool, ◌+◌, ◌-◌, ◌++◌, [], ◌∷◌, List, map, filter, length, slice_index_or, sym, ap, ◌∙◌, arith}
+use Rattle.std.proofs.Common.{◌≡◌, ℕ, Bool, ◌+◌, ◌++◌, List, map, filter, length, sym, ap, ◌∙◌, arith}
 use Rattle.std.specs.List.{range_with_len}
 use Rattle.std.proofs.lemmas.List.{length_push}
 use Rattle.cb_lines.specs.Lines.{has_line}
@@ -15,23 +15,23 @@ loop-place-preserved c =
     let f : ℕ → List ℕ = platform_name c.args.names.now in
     let so_far = filter p (range_with_len 1 step.place) in
     elim c.if-has.branch [
-        then-has+in_ok-add_separator+in_ok-add w ↦ (
-            let yes_ = filter_yes p step.place (sym c.has.ensures ∙ w.if-has.true) in
-            record {
-              text = w.text-is ∙ (names_grow f c.args.text.now step.text w.add_separator.new.text w.add.new.self so_far step.count (step.place + 1)
-                  step.invariant.text step.invariant.count w.in_ok-add_separator.ensures
-                  (w.in_ok-add.ensures ∙ ap (λ n. w.add_separator.new.text ++ n) w.platform_name.ensures)
-                  ∙ ap (λ ps. c.args.text.now ++ listed (map f ps)) (sym yes_));
-              count = w.count-is ∙ (ap (λ n. n + 1) step.invariant.count ∙ sym (length_push so_far (step.place + 1)) ∙ ap length (sym yes_));
-              few = (let e = w.count-is in let k = step.invariant.few in omega arith);
-            })
-        | else-has w ↦ (
-            let no_ = filter_no p step.place (sym c.has.ensures ∙ w.if-has.false) in
-            record {
-              text = w.text-is ∙ (step.invariant.text ∙ ap (λ ps. c.args.text.now ++ listed (map f ps)) (sym no_));
-              count = w.count-is ∙ (step.invariant.count ∙ ap length (sym no_));
-              few = (let e = w.count-is in let k = step.invariant.few in omega arith);
-            })
+      | then-has+in_ok-add_separator+in_ok-add w ↦ (
+          let yes_ = filter_yes p step.place (sym c.has.ensures ∙ w.if-has.true) in
+          record {
+            text = w.text-is ∙ (names_grow f c.args.text.now step.text w.add_separator.new.text w.add.new.self so_far step.count (step.place + 1)
+                step.invariant.text step.invariant.count w.in_ok-add_separator.ensures
+                (w.in_ok-add.ensures ∙ ap (λ n. w.add_separator.new.text ++ n) w.platform_name.ensures)
+                ∙ ap (λ ps. c.args.text.now ++ listed (map f ps)) (sym yes_));
+            count = w.count-is ∙ (ap (λ n. n + 1) step.invariant.count ∙ sym (length_push so_far (step.place + 1)) ∙ ap length (sym yes_));
+            few = (let e = w.count-is in let k = step.invariant.few in omega arith);
+          })
+      | else-has w ↦ (
+          let no_ = filter_no p step.place (sym c.has.ensures ∙ w.if-has.false) in
+          record {
+            text = w.text-is ∙ (step.invariant.text ∙ ap (λ ps. c.args.text.now ++ listed (map f ps)) (sym no_));
+            count = w.count-is ∙ (step.invariant.count ∙ ap length (sym no_));
+            few = (let e = w.count-is in let k = step.invariant.few in omega arith);
+          })
     ]
 
 pub returns : goal.returns
