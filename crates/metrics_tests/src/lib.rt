@@ -2,6 +2,10 @@
 #![tactic(auto)]
 
 #[cfg(test)]
+mod distances;
+#[cfg(test)]
 mod measure;
+#[cfg(test)]
+mod reports;
 #[cfg(test)]
 mod sets;
