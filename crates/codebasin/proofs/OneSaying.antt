@@ -166,12 +166,12 @@ pub one_saying : Laws → (words : List (List ℕ)) (w a b : World) (bytes : Lis
     → w.input.bytes ≡ Some bytes → Says words w a s t → Says words w b r u → s ≢ 4 → r ≢ 4 → (s ≡ r) × (t ≡ u)
 one_saying L words w a b bytes s r t u told x y four four' =
     elim (heard words w a s t x four) [
-      inl h ↦ elim (heard words w b r u y four') [
-        inl k ↦ (h.1 ∙ sym k.1, h.2 ∙ sym k.2)
-      | inr k ↦ absurd (let e = sym h.0 ∙ k.asked in cc)
+      | inl h ↦ elim (heard words w b r u y four') [
+        | inl k ↦ (h.1 ∙ sym k.1, h.2 ∙ sym k.2)
+        | inr k ↦ absurd (let e = sym h.0 ∙ k.asked in cc)
       ]
-    | inr h ↦ elim (heard words w b r u y four') [
-        inl k ↦ absurd (let e = sym k.0 ∙ h.asked in cc)
-      | inr k ↦ one_heard L words w bytes s r t u told h k
+      | inr h ↦ elim (heard words w b r u y four') [
+        | inl k ↦ absurd (let e = sym k.0 ∙ h.asked in cc)
+        | inr k ↦ one_heard L words w bytes s r t u told h k
       ]
     ]

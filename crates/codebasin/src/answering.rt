@@ -9,7 +9,6 @@ use crate::texts::{TOO_LONG, fault_text, not_yet_text, numbers_text};
 use cb_paths::{Bytes, NoMemory, SOURCE_BYTE_LIMIT};
 use cb_tree::{BuildFault, Tree, build};
 use std::alloc::Global;
-use std::mem;
 
 /// A text that a run writes.
 #[derive(Drop)]
@@ -45,7 +44,10 @@ pub(crate) struct Answer {
 
 impl Answer {
     /// The answer of a fixed text. It takes no memory.
-    pub(crate) fn fixed(status: u8, text: &'static [u8]) -> Answer {
+    pub(crate) fn fixed(status: u8, text: &'static [u8]) -> Answer
+        ensures status { result.status ≡ status }
+        ensures text { said_bytes result.text ≡ text.now }
+    {
         Answer {
             status,
             text: Said::Fixed(text),
@@ -53,7 +55,10 @@ impl Answer {
     }
 
     /// The answer of a text that was made.
-    fn made(status: u8, text: Vec<u8>) -> Answer {
+    fn made(status: u8, text: Vec<u8>) -> Answer
+        ensures status { result.status ≡ status }
+        ensures text { said_bytes result.text ≡ text.items }
+    {
         Answer {
             status,
             text: Said::Made(text),
@@ -100,10 +105,7 @@ pub(crate) fn answer_source(
     match build(alloc, source) {
         Ok(tree) => {
             let subject = Subject { names, tree };
-            let answer = answer_tree(alloc, &subject);
-            // The process ends behind its one answer, and gives all memory back at once. A tree has many small pieces.
-            mem::forget(subject);
-            answer
+            answer_tree(alloc, &subject)
         }
         Err(BuildFault::Bad(fault)) => {
             let text = fault_text(alloc, fault)?;

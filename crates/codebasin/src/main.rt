@@ -17,16 +17,16 @@ mod tests;
 mod texts;
 mod words;
 
+ghost use Rattle.std.specs.Prelude.{◌≡◌, ◌≢◌, [], drop, map, string_bytes, IfOk, IsErr};
+ghost use Rattle.std.specs.Process.{exit_status};
+ghost use Rattle.codebasin.specs.Run.{Ends};
+
 use cb_outside::{Sink, Source, StdSink, StdSource};
 use running::{OUT_OF_MEMORY, run};
 use std::alloc::Global;
 use std::env::Args;
 use std::process::ExitCode;
 use std::{env, io};
-
-ghost use Rattle.std.specs.Prelude.{◌≡◌, ◌≢◌, [], drop, map, string_bytes, IfOk, IsErr};
-ghost use Rattle.std.specs.Process.{exit_status};
-ghost use Rattle.codebasin.specs.Run.{Ends};
 
 /// The words of the command line behind the program's name. Words that are not UTF-8 are none that the program knows, and
 /// count as no words.

@@ -1,21 +1,22 @@
-use Rattle.std.proofs.Common.{ℕ, ◌≤◌, List, length, Err, ap, sym, subst, arith}
+use Rattle.std.proofs.Common.{ℕ, ◌≤◌, List, length, Err, ap, sym, subst, ◌∙◌, arith}
 use Rattle.std.proofs.lemmas.Result.{IfOk-weaker}
-use Rattle.codebasin.specs.Texts.{limit_text}
+use Rattle.codebasin.specs.Texts.{limit_text, fault_text}
 use Rattle.codebasin.specs.inner.Answers.{Answers, too_long, unsound, sound}
 use Rattle.codebasin.proofs.AnswerParts.{from_parts}
 use Rattle.codebasin.proofs.answering.answer_source.Goals as goal
 
 pub returns-then-source-gt-SOURCE_BYTE_LIMIT : goal.returns-then-source-gt-SOURCE_BYTE_LIMIT
 returns-then-source-gt-SOURCE_BYTE_LIMIT c =
-    from_parts (λ a. a.status) (λ a. a.text.items) (Answers c.args.names.items c.args.source.now) 3 limit_text c.fixed.result
-    c.fixed.ensures.status c.fixed.ensures.text (too_long c.if-source-gt-SOURCE_BYTE_LIMIT.true)
+    from_parts (Answers c.args.names.items c.args.source.now) 3 _ limit_text _ c.fixed.ensures.status c.fixed.ensures.text
+    (too_long c.if-source-gt-SOURCE_BYTE_LIMIT.true)
 
 pub returns-in-Ok : goal.returns-in-Ok
 returns-in-Ok c =
-    IfOk-weaker c.answer_tree-answer.result _ _ (λ a says. sound c.in-Ok.tree a.status a.text.items c.in-Ok.ensures.nodes says) c.answer_tree-answer.ensures
+    IfOk-weaker c.answer_tree.result _ _ (λ a says. sound c.in-Ok.tree a.status _ c.in-Ok.ensures.nodes says) c.answer_tree.ensures
 
 pub returns-in-Err-Bad : goal.returns-in-Err-Bad
 returns-in-Err-Bad c =
-    let P : List ℕ → Type 0 = λ text. Answers c.args.names.items c.args.source.now 2 text in
     let short : length c.args.source.now ≤ 4194304 = omega arith in
-    subst P (sym c.in_ok-text-in-Err-Bad.ensures) (unsound c.in-Err-Bad.fault short (c.in-Err-Bad.ensures.fault c.in-Err-Bad.fault (ap Err c.in-Err-Bad.field-0-is)))
+    from_parts (Answers c.args.names.items c.args.source.now) 2 _ (fault_text c.in-Err-Bad.fault) _ c.made.ensures.status
+    (c.made.ensures.text ∙ c.in_ok-text-in-Err-Bad.ensures)
+    (unsound c.in-Err-Bad.fault short (c.in-Err-Bad.ensures.fault c.in-Err-Bad.fault (ap Err c.in-Err-Bad.field-0-is)))

@@ -1,51 +1,55 @@
-use Rattle.std.proofs.Common.{ℕ, ◌+◌, ◌<◌, ◌≤◌, List, length, map, sym, ap, ◌∙◌, subst, arith}
-use Rattle.std.specs.Prelude.{vec_len}
+use Rattle.std.proofs.Common.{◌≡◌, ℕ, List, map, sym, ap, ◌∙◌, subst, arith, refl, Err, Some, None, Option}
 use Rattle.std.specs.Option.{option_map}
 use Rattle.std.specs.String.{string_bytes}
 use Rattle.std.proofs.lemmas.Result.{IfOk-weaker}
 use Rattle.codebasin.specs.Texts.{usage_text, read_text}
+use Rattle.codebasin.specs.Words.{Specialise, job_of}
 use Rattle.codebasin.specs.inner.Answers.{Answers}
-use Rattle.codebasin.specs.Run.{Says, refused, answered, unread}
+use Rattle.codebasin.specs.inner.Said.{said_bytes}
+use Rattle.codebasin.specs.Run.{World, Stream, Says, ReadsAll, usage, unread}
 use Rattle.codebasin.proofs.AnswerParts.{from_parts}
-use Rattle.codebasin.proofs.Statuses.{answer_status, answer_status_not_one, keeps_itself}
+use Rattle.codebasin.proofs.Statuses.{says_answer, answer_status_not_one}
 use Rattle.codebasin.proofs.running.reply.Goals as goal
 
+-- a world with this input
+abbrev world : Option (List ℕ) → ℕ → Stream → World
+world bytes faults output = record { input = record { bytes = bytes; faults = faults }; output = output }
+
 pub returns-in_default-clause-says : goal.returns-in_default-clause-says
-returns-in_default-clause-says g c =
+returns-in_default-clause-says g c = λ o p.
     let words = map string_bytes c.args.words.now in
     let left = g.R.Source.left c.args.input.now in
-    let no_job = sym c.in_ok-names.ensures ∙ ap (option_map (λ found. found.items)) c.in_default.is in
-    from_parts (λ a. a.status) (λ a. a.text.items) (Says words left left) 1 usage_text c.fixed.result c.fixed.ensures.status c.fixed.ensures.text
-    (refused no_job (keeps_itself left))
+    let faults = g.R.Source.faults c.args.input.now in
+    let no_job : job_of words ≡ None = ap (option_map Specialise) (sym c.in_ok-names.ensures ∙ ap (option_map (λ found. found.items)) c.in_default.is) in
+    from_parts (Says words (world left faults o) (world left faults p)) 1 _ usage_text _ c.fixed.ensures.status c.fixed.ensures.text (usage no_job refl)
 
 pub returns-in-Ok-clause-says : goal.returns-in-Ok-clause-says
-returns-in-Ok-clause-says g c =
+returns-in-Ok-clause-says g c = λ o p.
+    let words = map string_bytes c.args.words.now in
     let source = c.in-Ok.source in
-    let job = sym c.in_ok-names.ensures ∙ ap (option_map (λ found. found.items)) c.in-Some.is in
-    let within : length source.items ≤ 4194305 = omega (arith, c.in-Ok.ensures.within, source.ok.0) in
-    let short : length source.items ≤ 4194304 → vec_len source < 4194304 + 1 = λ h. omega (arith, source.ok.0) in
+    let old = world (g.R.Source.left c.args.input.now) (g.R.Source.faults c.args.input.now) o in
+    let new = world (g.R.Source.left c.take_up_to.new.source) (g.R.Source.faults c.take_up_to.new.source) p in
+    let job : job_of words ≡ Some (Specialise c.in-Some.names.items) = ap (option_map Specialise) (sym c.in_ok-names.ensures ∙ ap (option_map (λ found. found.items)) c.in-Some.is) in
+    let reads : ReadsAll old new source.items = record { consumed = c.in-Ok.ensures.content; front = c.in-Ok.ensures.first; kept = c.in-Ok.ensures.kept } in
     IfOk-weaker c.answer_source.result _ _
     (λ a says.
-    let P : List ℕ → Type 0 = λ bytes. Answers c.in-Some.names.items bytes a.status a.text.items in
-    answered c.in-Some.names.items source.items a.status a.text.items job c.in-Ok.ensures.content within (λ h. c.in-Ok.ensures.end (short h))
-    (subst P c.as_slice.ensures.value says))
-    c.answer_source.ensures
-
-pub returns-in-Ok-clause-read_failed : goal.returns-in-Ok-clause-read_failed
-returns-in-Ok-clause-read_failed g c =
-    IfOk-weaker c.answer_source.result _ _
-    (λ a says is_four. absurd (omega (arith, answer_status c.in-Some.names.items c.as_slice.result.now a.status a.text.items says)))
+    let P : List ℕ → Type 0 = λ bytes. Answers c.in-Some.names.items bytes a.status (said_bytes a.text) in
+    says_answer words c.in-Some.names.items old new source.items a.status (said_bytes a.text) job reads (subst P c.as_slice.ensures.value says))
     c.answer_source.ensures
 
 pub returns-in-Ok-clause-refused : goal.returns-in-Ok-clause-refused
 returns-in-Ok-clause-refused g c =
     IfOk-weaker c.answer_source.result _ _
-    (λ a says is_one. absurd (answer_status_not_one c.in-Some.names.items c.as_slice.result.now a.status a.text.items says is_one))
+    (λ a says is_one. absurd (answer_status_not_one c.in-Some.names.items c.as_slice.result.now a.status (said_bytes a.text) says is_one))
     c.answer_source.ensures
 
 pub returns-in-Err-Failed-clause-says : goal.returns-in-Err-Failed-clause-says
-returns-in-Err-Failed-clause-says g c =
+returns-in-Err-Failed-clause-says g c = λ o p.
     let words = map string_bytes c.args.words.now in
-    let job = sym c.in_ok-names.ensures ∙ ap (option_map (λ found. found.items)) c.in-Some.is in
-    from_parts (λ a. a.status) (λ a. a.text.items) (Says words (g.R.Source.left c.args.input.now) (g.R.Source.left c.take_up_to.new.source)) 4 read_text
-    c.fixed-in-Err-Failed.result c.fixed-in-Err-Failed.ensures.status c.fixed-in-Err-Failed.ensures.text (unread c.in-Some.names.items job)
+    let old = world (g.R.Source.left c.args.input.now) (g.R.Source.faults c.args.input.now) o in
+    let new = world (g.R.Source.left c.take_up_to.new.source) (g.R.Source.faults c.take_up_to.new.source) p in
+    let job : job_of words ≡ Some (Specialise c.in-Some.names.items) = ap (option_map Specialise) (sym c.in_ok-names.ensures ∙ ap (option_map (λ found. found.items)) c.in-Some.is) in
+    let is = ap Err c.in-Err-Failed.field-0-is in
+    let lost = c.in-Err-Failed.ensures.lost is in
+    from_parts (Says words old new) 4 _ read_text _ c.fixed-in-Err-Failed.ensures.status c.fixed-in-Err-Failed.ensures.text
+    (unread c.in-Some.names.items job (record { lost = lost.0; within = let few = lost.1 in omega arith; consumed = lost.2; rose = c.in-Err-Failed.ensures.failed is }))
