@@ -256,20 +256,29 @@ fn notes_of(alloc: Global, notes: &[(&[u8], u32, u32, u32, &[u8])]) -> Result<No
     Ok(NoteRows::from_vec(rows))
 }
 
-fn figures_of(alloc: Global, case: &Case) -> Result<Figures, NoMemory> {
+/// Figures of counted lines, and nothing else.
+fn counted_of(alloc: Global, case: &Case) -> Result<Figures, NoMemory> {
     let files = files_of(alloc, case.sources)?;
     let setmap = setmap_of(alloc, case.platforms.len(), files.as_slice())?;
     let pairs = distances_of(alloc, &setmap)?;
     Ok(Figures {
-        platforms: texts_of(alloc, case.platforms)?,
+        platforms: Texts::new(alloc),
         files,
         setmap,
         pairs,
-        groups: groups_of(alloc, case.groups)?,
+        groups: TextLists::from_vec(Vec::new(alloc)),
         databases: AbsentRows::from_vec(Vec::new(alloc)),
         idle: IdleRows::from_vec(Vec::new(alloc)),
-        notes: notes_of(alloc, case.notes)?,
+        notes: NoteRows::from_vec(Vec::new(alloc)),
     })
+}
+
+fn figures_of(alloc: Global, case: &Case) -> Result<Figures, NoMemory> {
+    let mut figures = counted_of(alloc, case)?;
+    figures.platforms = texts_of(alloc, case.platforms)?;
+    figures.groups = groups_of(alloc, case.groups)?;
+    figures.notes = notes_of(alloc, case.notes)?;
+    Ok(figures)
 }
 
 /// Whether figures print as a text.
@@ -299,35 +308,51 @@ fn reports_are_printed(rt: HostRuntime) -> Result<(), Fail> {
     Ok(())
 }
 
-/// What stands in the notes of a platform without a database and of two entries that make no command.
-fn idle_figures(alloc: Global) -> Result<bool, NoMemory> {
-    let mut figures = figures_of(alloc, &CASES[8])?;
-    let mut databases = Vec::new(alloc);
-    databases.push(AbsentRow {
+/// A platform without a database.
+fn absent_rows(alloc: Global) -> Result<AbsentRows, NoMemory> {
+    let mut rows = Vec::new(alloc);
+    rows.push(AbsentRow {
         platform: Bytes::from_slice(alloc, b"gpu")?,
         path: Bytes::from_slice(alloc, b"gpu.json")?,
     })?;
-    figures.databases = AbsentRows::from_vec(databases);
-    let mut idle = Vec::new(alloc);
+    Ok(AbsentRows::from_vec(rows))
+}
+
+/// Two entries that make no command.
+fn idle_rows(alloc: Global) -> Result<IdleRows, NoMemory> {
+    let mut rows = Vec::new(alloc);
     for (command, why) in [(3, Idle::Outside), (12, Idle::Unsupported)] {
-        idle.push(IdleRow {
+        let platform = Bytes::from_slice(alloc, b"cpu")?;
+        rows.push(IdleRow {
             command,
-            platform: Bytes::from_slice(alloc, b"cpu")?,
+            platform,
             why,
         })?;
     }
-    figures.idle = IdleRows::from_vec(idle);
+    Ok(IdleRows::from_vec(rows))
+}
+
+/// Figures with those two, and nothing else.
+fn idle_figures(alloc: Global) -> Result<Figures, NoMemory> {
+    let mut figures = counted_of(alloc, &CASES[8])?;
+    figures.databases = absent_rows(alloc)?;
+    figures.idle = idle_rows(alloc)?;
+    Ok(figures)
+}
+
+/// Whether what makes no command is printed.
+fn idle_entries_print(alloc: Global) -> Result<bool, NoMemory> {
     prints(
         alloc,
         Kind::Notes,
-        &figures,
+        &idle_figures(alloc)?,
         b"database gpu gpu.json absent\ncommand 3 cpu outside\ncommand 12 cpu unsupported\n",
     )
 }
 
 #[test]
 fn idle_entries_are_printed(rt: HostRuntime) -> Result<(), Fail> {
-    assert!(rt; idle_figures(rt.alloc())?);
+    assert!(rt; idle_entries_print(rt.alloc())?);
     Ok(())
 }
 
