@@ -1,5 +1,7 @@
 //! Conditions with the answers that the C standard's rules give.
-use crate::examples::{CXX_HOLDS, FAILS, HOLDS, IN_PARTS, MALFORMED, SHIFT, TOO_WIDE, ZERO_DIVISOR};
+use crate::examples::{
+    CXX_HOLDS, FAILS, HOLDS, IN_PARTS, MALFORMED, SHIFT, TOO_WIDE, ZERO_DIVISOR,
+};
 use cb_cond::{BadCondition, one_condition, value, value_of_parts};
 use cb_paths::{Bytes, Language, NoMemory};
 use cb_tokens::{Token, TokenKind};
@@ -173,7 +175,10 @@ fn parts_are_as_deep_as_one_list(rt: HostRuntime) -> Result<(), Fail> {
         ("0 ? 0 :", 256, Ok(true)),
         ("0 ? 0 :", 257, Err(BadCondition::TooDeep)),
     ] {
-        assert!(rt; answer_to_repeated(rt.alloc(), (part, times), "1")? == expected, "{part} {times} times");
+        assert!(rt;
+            answer_to_repeated(rt.alloc(), (part, times), "1")? == expected,
+            "{part} {times} times"
+        );
     }
     Ok(())
 }
