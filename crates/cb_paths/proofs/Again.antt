@@ -1,14 +1,11 @@
 -- A normal path, and a normal folder, is read as itself.
-use Rattle.std.proofs.Common.{◌≡◌, ℕ, zero, suc, ◌+◌, ◌-◌, ◌<◌, ◌≤◌, ◌==◌, ◌&&◌, ◌||◌, not, nat_lt, Bool, true, false, cond, if◌then◌else◌, List, [], ◌∷◌, ◌++◌, length, drop, refl, sym, ap, subst, ◌∙◌, arith, length-append, Option, Some, None}
-use Rattle.std.specs.Prelude.{codes, bytes_eq}
-use Rattle.std.specs.List.{list_all, list_any, filter}
+use Rattle.std.proofs.Common.{◌≡◌, ℕ, ◌-◌, ◌<◌, ◌≤◌, ◌==◌, not, nat_lt, Bool, true, false, List, [], ◌∷◌, ◌++◌, length, refl, sym, ap, subst, ◌∙◌, arith, length-append, Some, None}
+use Rattle.std.specs.List.{list_all, list_any}
 use Rattle.std.proofs.lemmas.Bool.Decides.{nat_tests}
-use Rattle.cb_paths.specs.Parts.{is_up, is_kept, parts_of, normal, without_ups, rooted}
-use Rattle.cb_paths.specs.Paths.{is_control, is_absolute, climbs, path_text, path_fault, unless_faulty, path_of, parts_from, folder_text, folder_fault, folder_at}
+use Rattle.cb_paths.specs.Parts.{is_kept, parts_of, normal, without_ups, rooted}
+use Rattle.cb_paths.specs.Paths.{is_control, is_absolute, climbs, path_text, path_fault, path_of, parts_from, folder_text, folder_fault, folder_at}
 use Rattle.cb_paths.specs.inner.Trails.{is_plain, IsFolder}
-use Rattle.cb_paths.specs.declared.bad_path.BadPath.{BadPath}
-use Rattle.cb_paths.specs.declared.bad_path.BadPath.TheVariants.{Empty, TooLong, Outside, Control}
-use Rattle.cb_paths.proofs.Normal.{normal_down, up-head, up-tail}
+use Rattle.cb_paths.proofs.Normal.{normal_down, up-head}
 use Rattle.cb_paths.proofs.Trails.{plain_is_down, plain_is_kept, plain_has_no_slash}
 use Rattle.cb_paths.proofs.Rooted.{ArePlain, plain_are_down, parts_of_path, parts_of_folder}
 use Rattle.cb_paths.proofs.Sizes.{rooted_fits, AreClean, clean_parts, clean_normal, clean_without, clean_path, clean_rooted}

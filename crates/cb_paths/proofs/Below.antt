@@ -1,13 +1,13 @@
 -- Paths below a root.
-use Rattle.std.proofs.Common.{◌≡◌, ℕ, zero, suc, ◌+◌, ◌-◌, ◌<◌, ◌≤◌, ◌==◌, ◌||◌, nat_lt, Bool, true, false, cond, if◌then◌else◌, List, [], ◌∷◌, ◌++◌, length, take, drop, get_or, refl, sym, ap, subst, ◌∙◌, append_assoc, arith, not, add-one, length-append, length-drop, drop-cons, Option, Some, None}
+use Rattle.std.proofs.Common.{◌≡◌, ℕ, ◌+◌, ◌-◌, ◌<◌, ◌≤◌, ◌==◌, nat_lt, Bool, true, false, if◌then◌else◌, List, [], ◌∷◌, ◌++◌, length, take, drop, refl, sym, ap, subst, ◌∙◌, append_assoc, arith, not, add-one, length-append, length-drop, drop-cons, Option, Some, None}
 use Rattle.std.specs.Prelude.{codes, bytes_eq, slice_index}
-use Rattle.std.specs.List.{list_all, list_any, slice_split, onto_first, filter}
+use Rattle.std.specs.List.{list_any, slice_split, onto_first}
 use Rattle.std.proofs.lemmas.List.{take_all, take-append-drop}
 use Rattle.std.proofs.lemmas.Slice.Eq.{bytes_eq-Decides}
 use Rattle.std.proofs.lemmas.Bool.Decides.{nat_tests}
 use Rattle.std.proofs.Math.Seq.{take-append_seam}
 use Rattle.cb_paths.specs.Parts.{is_kept, parts_of, normal, without_ups, rooted}
-use Rattle.cb_paths.specs.Paths.{is_control, is_absolute, path_text, path_fault, path_of, unless_faulty, folder_text, parts_from, behind, path_below, fitting, file_at, holding_fault, folder_holding, folder_of}
+use Rattle.cb_paths.specs.Paths.{is_control, path_fault, path_of, unless_faulty, folder_text, parts_from, behind, path_below, fitting, file_at, holding_fault, folder_holding, folder_of}
 use Rattle.cb_paths.specs.declared.bad_path.BadPath.{BadPath}
 use Rattle.cb_paths.specs.declared.bad_path.BadPath.TheVariants.{Empty, TooLong, Outside, Control}
 use Rattle.cb_paths.specs.inner.Trails.{is_plain, IsFolder, IsBelow, Stands}
@@ -15,7 +15,7 @@ use Rattle.cb_paths.specs.declared.trail.Trail.{Trail}
 use Rattle.cb_paths.proofs.Normal.{up-head, up-tail}
 use Rattle.cb_paths.proofs.Trails.{plain_is_kept, plain_has_no_slash}
 use Rattle.cb_paths.proofs.Splitting.{split_at}
-use Rattle.cb_paths.proofs.Rooted.{ArePlain, Ends, ends_at, split_rooted, parts_of_folder, parts_of_path}
+use Rattle.cb_paths.proofs.Rooted.{ArePlain, ends_at, split_rooted, parts_of_folder, parts_of_path}
 use Rattle.cb_paths.proofs.Sizes.{AreClean, clean_parts, clean-append}
 use Rattle.cb_paths.proofs.Again.{path_of_plain, folder_kept}
 use Rattle.cb_paths.proofs.PathFaults.{within}

@@ -1,14 +1,14 @@
 -- Which fault of a folder decides, and the folder where there is none.
-use Rattle.std.proofs.Common.{◌≡◌, ℕ, zero, suc, ◌+◌, ◌-◌, ◌<◌, ◌≤◌, ◌==◌, ◌||◌, nat_lt, Bool, true, false, cond, if◌then◌else◌, List, [], ◌∷◌, ◌++◌, length, take, drop, refl, sym, ap, subst, ◌∙◌, arith, Option, Some, None}
+use Rattle.std.proofs.Common.{◌≡◌, ℕ, ◌<◌, ◌≤◌, nat_lt, Bool, true, false, if◌then◌else◌, List, [], ◌++◌, length, refl, sym, ap, ◌∙◌, arith, Some}
 use Rattle.std.specs.Prelude.{codes}
 use Rattle.std.specs.List.{list_any}
 use Rattle.std.proofs.lemmas.Bool.Decides.{nat_tests}
-use Rattle.cb_paths.specs.Parts.{parts_of, normal, without_ups, rooted}
+use Rattle.cb_paths.specs.Parts.{parts_of, rooted}
 use Rattle.cb_paths.specs.Paths.{is_control, is_absolute, parts_from, folder_text, folder_fault, folder_at}
 use Rattle.cb_paths.specs.inner.Trails.{Stands, IsFolder}
 use Rattle.cb_paths.specs.declared.trail.Trail.{Trail}
 use Rattle.cb_paths.specs.declared.bad_path.BadPath.TheVariants.{TooLong, Control}
-use Rattle.cb_paths.proofs.Rooted.{ArePlain, Ends, ends_at}
+use Rattle.cb_paths.proofs.Rooted.{ends_at}
 use Rattle.cb_paths.proofs.Sizes.{AreClean, clean_parts, clean-append}
 use Rattle.cb_paths.proofs.Again.{folder_kept, folder_at_is}
 

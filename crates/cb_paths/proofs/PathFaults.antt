@@ -1,14 +1,14 @@
 -- Which fault of a path decides, and the path where there is none.
-use Rattle.std.proofs.Common.{◌≡◌, ℕ, zero, suc, ◌+◌, ◌-◌, ◌<◌, ◌≤◌, ◌==◌, ◌||◌, nat_lt, Bool, true, false, List, [], ◌∷◌, ◌++◌, length, take, drop, refl, sym, ap, subst, ◌∙◌, arith, length-append, Option, Some, None}
+use Rattle.std.proofs.Common.{◌≡◌, ℕ, suc, ◌-◌, ◌<◌, ◌≤◌, ◌==◌, nat_lt, true, false, List, [], ◌∷◌, length, take, drop, refl, sym, ap, subst, ◌∙◌, arith, length-append, Some, None}
 use Rattle.std.specs.List.{list_any}
 use Rattle.std.proofs.lemmas.List.{take_all}
 use Rattle.std.proofs.lemmas.Bool.Decides.{nat_tests}
-use Rattle.cb_paths.specs.Parts.{parts_of, normal, without_ups, rooted}
-use Rattle.cb_paths.specs.Paths.{is_control, is_absolute, climbs, path_text, path_fault, unless_faulty, path_of}
+use Rattle.cb_paths.specs.Parts.{parts_of, normal, rooted}
+use Rattle.cb_paths.specs.Paths.{is_control, is_absolute, climbs, path_text, path_fault, path_of}
 use Rattle.cb_paths.specs.inner.Trails.{Stands}
 use Rattle.cb_paths.specs.declared.trail.Trail.{Trail}
 use Rattle.cb_paths.specs.declared.bad_path.BadPath.TheVariants.{Empty, TooLong, Outside, Control}
-use Rattle.cb_paths.proofs.Rooted.{ArePlain, Ends, ends_at}
+use Rattle.cb_paths.proofs.Rooted.{ArePlain, ends_at}
 use Rattle.cb_paths.proofs.Again.{faultless, path_again}
 
 over : (n : ℕ) → 1024 < n → nat_lt 1024 n ≡ true

@@ -1,15 +1,13 @@
 -- The texts of lists of parts, and the parts of such texts.
-use Rattle.std.proofs.Common.{◌≡◌, ℕ, zero, suc, ◌+◌, ◌<◌, ◌≤◌, ◌==◌, ◌&&◌, ◌||◌, not, nat_lt, Bool, true, false, cond, List, [], ◌∷◌, ◌++◌, length, drop, refl, sym, ap, subst, ◌∙◌, append_assoc, arith, length-append}
-use Rattle.std.specs.Prelude.{bytes_eq}
-use Rattle.std.specs.List.{list_all, list_any, filter, flat_map, slice_split, onto_first}
+use Rattle.std.proofs.Common.{◌≡◌, ℕ, suc, ◌<◌, ◌==◌, nat_lt, true, false, List, [], ◌∷◌, ◌++◌, length, refl, sym, ap, subst, ◌∙◌, arith}
+use Rattle.std.specs.List.{list_all, filter, slice_split}
 use Rattle.std.proofs.lemmas.List.{append-nil}
-use Rattle.std.proofs.lemmas.Bool.Decides.{nat_tests}
 use Rattle.std.proofs.lemmas.Grind.{flat_map-append}
-use Rattle.cb_paths.specs.Parts.{is_up, is_kept, parts_of, led, normal, without_ups, rooted}
-use Rattle.cb_paths.specs.Paths.{is_control, is_absolute, climbs, path_text, folder_text}
+use Rattle.cb_paths.specs.Parts.{is_up, is_kept, parts_of, normal, without_ups, rooted}
+use Rattle.cb_paths.specs.Paths.{climbs, path_text, folder_text}
 use Rattle.cb_paths.specs.inner.Trails.{is_plain, text_back, in_order, Stands}
 use Rattle.cb_paths.specs.declared.trail.Trail.{Trail}
-use Rattle.cb_paths.proofs.Normal.{AreDown, normal_down, up-head, up-tail}
+use Rattle.cb_paths.proofs.Normal.{AreDown, up-head, up-tail}
 use Rattle.cb_paths.proofs.Trails.{plain_is_down, plain_is_kept, plain_has_no_slash, order_is_down}
 use Rattle.cb_paths.proofs.Splitting.{split_none, split_at}
 

@@ -1,9 +1,8 @@
 -- Normal texts are no longer than those that they come from, and hold no other bytes.
-use Rattle.std.proofs.Common.{◌≡◌, ℕ, zero, suc, ◌+◌, ◌<◌, ◌≤◌, ◌==◌, ◌&&◌, ◌||◌, not, nat_lt, Bool, true, false, cond, List, [], ◌∷◌, ◌++◌, length, drop, refl, sym, ap, subst, ◌∙◌, arith, length-append}
-use Rattle.std.specs.List.{list_all, list_any, filter, flat_map, slice_split, onto_first}
+use Rattle.std.proofs.Common.{◌≡◌, ℕ, suc, ◌+◌, ◌≤◌, ◌==◌, ◌&&◌, ◌||◌, not, Bool, true, false, cond, List, [], ◌∷◌, ◌++◌, length, drop, refl, arith, length-append}
+use Rattle.std.specs.List.{list_any, filter, slice_split, onto_first}
 use Rattle.cb_paths.specs.Parts.{is_up, is_kept, parts_of, led, normal, without_ups, rooted}
 use Rattle.cb_paths.specs.Paths.{is_control}
-use Rattle.cb_paths.proofs.Normal.{up-head, up-tail}
 
 -- the bytes of parts, with a slash for each
 pub weight : List (List ℕ) → ℕ

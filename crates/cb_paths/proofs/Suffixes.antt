@@ -1,8 +1,8 @@
 -- The last piece of a text.
-use Rattle.std.proofs.Common.{◌≡◌, ℕ, ◌==◌, Bool, true, false, not, List, [], ◌∷◌, ◌++◌, refl, sym, ap, ◌∙◌, Option, Some, None, IfSome, IfNone}
-use Rattle.std.specs.Prelude.{option_map, is_some}
+use Rattle.std.proofs.Common.{◌≡◌, ℕ, ◌==◌, Bool, true, false, List, [], ◌∷◌, ◌++◌, refl, sym, ap, ◌∙◌, Option, Some, None, IfSome, IfNone}
+use Rattle.std.specs.Prelude.{is_some}
 use Rattle.std.specs.Borrow.{Bor}
-use Rattle.std.specs.List.{list_all, last_or, slice_split, onto_first}
+use Rattle.std.specs.List.{last_or, slice_split, onto_first}
 use Rattle.cb_paths.specs.Languages.{last_behind, behind_last}
 use Rattle.cb_paths.proofs.Splitting.{lacks, split_none, split_at}
 

@@ -1,5 +1,5 @@
 -- The language of a source by the name of its file.
-use Rattle.std.specs.Prelude.{ℕ, ◌==◌, ◌||◌, if◌then◌else◌, Bool, List, [], ◌∷◌, bytes_eq, codes, Option, Some, None}
+use Rattle.std.specs.Prelude.{ℕ, ◌==◌, if◌then◌else◌, Bool, List, [], ◌∷◌, bytes_eq, codes, Option, Some, None}
 use Rattle.std.specs.List.{list_any, last_or, slice_split}
 use Rattle.cb_paths.specs.declared.language.Language.{Language}
 use Rattle.cb_paths.specs.declared.language.Language.TheVariants.{C, Cxx}

@@ -1,15 +1,16 @@
-//! Texts, paths and folders are compared, ordered and hashed by their bytes.
+//! Texts, paths and folders are compared, ordered and hashed by their bytes, lists of texts compared and hashed text by text.
 ghost use Rattle.std.specs.Prelude.{◌≡◌, Some, refl, bytes_eq};
 ghost use Rattle.std.proofs.Common.{rules};
 ghost use Rattle.std.specs.Ordering.{nat_cmp};
 ghost use Rattle.std.specs.Hash as fed;
 ghost use Rattle.std.specs.Cmp.{partial_equiv_from_equiv};
-ghost use Rattle.std.specs.Cmp.Lexicographic.{slice_cmp, nat_list_eq_equiv, nat_list_cmp_total, texts_ties, texts_po};
+ghost use Rattle.std.specs.Cmp.Lexicographic.{slice_cmp, pointwise, bytes_decides, lists_equiv, nat_list_eq_equiv, nat_list_cmp_total, texts_ties, texts_po};
 ghost use Rattle.std.specs.Cmp.Rules.{hashing};
 
 use crate::bytes::Bytes;
 use crate::dir::Dir;
 use crate::path::Path;
+use crate::text_list::Texts;
 use std::cmp::Ordering;
 use std::hash::{Hash, Hasher};
 
@@ -154,5 +155,29 @@ impl Hash for Dir {
 
     fn hash<H: Hasher>(&self, state: &mut H) {
         self.bytes().hash(state);
+    }
+}
+
+impl PartialEq for Texts {
+    ghost eq = { pointwise bytes_eq };
+
+    ghost laws = { partial_equiv_from_equiv (lists_equiv nat_list_eq_equiv) };
+
+    fn eq(&self, other: &Texts) -> bool {
+        self.as_slice() == other.as_slice()
+    }
+}
+
+impl Eq for Texts {
+    ghost laws = { lists_equiv nat_list_eq_equiv };
+}
+
+impl Hash for Texts {
+    ghost hash_input = { λ texts. fed.slice (fed.slice fed.u8) texts };
+
+    ghost respects_eq = { (fed.items_Alike (fed.same_Alike (fed.slice fed.u8) bytes_decides)).fed };
+
+    fn hash<H: Hasher>(&self, state: &mut H) {
+        self.as_slice().hash(state);
     }
 }

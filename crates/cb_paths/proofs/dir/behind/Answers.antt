@@ -1,4 +1,3 @@
-use Rattle.std.proofs.Common.{◌≡◌, take, length, sym, ◌∙◌, rules, arith}
 use Rattle.cb_paths.proofs.Below.{not_behind, is_behind, differs, equals}
 use Rattle.cb_paths.proofs.dir.behind.Goals as goal
 

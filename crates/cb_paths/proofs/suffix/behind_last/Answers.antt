@@ -1,8 +1,6 @@
-use Rattle.std.proofs.Common.{◌≡◌, true, false, rules, Option, Some, None, List, ℕ, refl, sym, ap, subst, ◌∙◌}
+use Rattle.std.proofs.Common.{◌≡◌, true, false, rules, Some, List, ℕ, sym, ap, ◌∙◌}
 use Rattle.std.specs.Prelude.{option_map, is_some}
-use Rattle.std.specs.List.{last_or, slice_split}
 use Rattle.std.specs.Borrow.{Bor}
-use Rattle.cb_paths.specs.Languages.{behind_last}
 use Rattle.cb_paths.proofs.Suffixes.{last_left, last_first, last_on, last_here}
 use Rattle.cb_paths.proofs.suffix.behind_last.Goals as goal
 

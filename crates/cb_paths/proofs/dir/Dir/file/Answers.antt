@@ -1,4 +1,4 @@
-use Rattle.std.proofs.Common.{◌≡◌, List, ℕ, true, sym, ap, subst, ◌∙◌}
+use Rattle.std.proofs.Common.{◌≡◌, List, ℕ, true, sym, subst, ◌∙◌}
 use Rattle.std.specs.List.{list_all}
 use Rattle.cb_paths.specs.Parts.{rooted}
 use Rattle.cb_paths.specs.Paths.{folder_text}

@@ -1,4 +1,4 @@
-use Rattle.std.proofs.Common.{◌≡◌, List, ℕ, ap, subst, ◌∙◌, false, arith}
+use Rattle.std.proofs.Common.{◌≡◌, List, ℕ, subst, ◌∙◌, false, arith}
 use Rattle.std.specs.List.{list_any}
 use Rattle.cb_paths.specs.Paths.{is_control}
 use Rattle.cb_paths.specs.inner.Trails.{Stands}

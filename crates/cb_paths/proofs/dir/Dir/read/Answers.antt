@@ -1,9 +1,8 @@
-use Rattle.std.proofs.Common.{◌≡◌, true, false, refl, sym, ap, subst, ◌∙◌, arith, Some}
-use Rattle.std.specs.Prelude.{codes}
+use Rattle.std.proofs.Common.{◌≡◌, false, sym, subst, ◌∙◌, arith}
 use Rattle.std.specs.List.{list_any}
 use Rattle.cb_paths.specs.Paths.{is_control}
 use Rattle.cb_paths.specs.inner.Trails.{Stands}
-use Rattle.cb_paths.proofs.Folders.{walked_parts, folder_fault_long, folder_fault_result, folder_fault_control, Found, found}
+use Rattle.cb_paths.proofs.Folders.{walked_parts, folder_fault_long, folder_fault_result, folder_fault_control, found}
 use Rattle.cb_paths.proofs.dir.Dir.read.Goals as goal
 
 pub returns-then-text-gt-FOLDER_BYTE_LIMIT-clause-bad : goal.returns-then-text-gt-FOLDER_BYTE_LIMIT-clause-bad

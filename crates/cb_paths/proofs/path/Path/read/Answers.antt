@@ -1,9 +1,5 @@
-use Rattle.std.proofs.Common.{◌≡◌, ◌<◌, ◌≤◌, [], true, false, drop, length, refl, sym, ap, ◌∙◌, arith}
-use Rattle.std.specs.List.{list_any}
-use Rattle.cb_paths.specs.Parts.{parts_of}
-use Rattle.cb_paths.specs.Paths.{is_control, is_absolute}
-use Rattle.cb_paths.specs.inner.Trails.{Stands}
-use Rattle.cb_paths.proofs.PathFaults.{behind_first, fault_long, fault_control, fault_absolute, fault_climbs, fault_empty, Walked, walked}
+use Rattle.std.proofs.Common.{[], sym, ◌∙◌, arith}
+use Rattle.cb_paths.proofs.PathFaults.{behind_first, fault_long, fault_control, fault_absolute, fault_climbs, fault_empty, walked}
 use Rattle.cb_paths.proofs.path.Path.read.Goals as goal
 
 pub returns-then-text-gt-PATH_BYTE_LIMIT-clause-bad : goal.returns-then-text-gt-PATH_BYTE_LIMIT-clause-bad

@@ -1,4 +1,4 @@
-use Rattle.std.proofs.Common.{◌≡◌, [], refl, sym, ◌∙◌, arith}
+use Rattle.std.proofs.Common.{refl, sym, ◌∙◌, arith}
 use Rattle.std.proofs.lemmas.List.{append-nil, nil_from_length}
 use Rattle.cb_paths.proofs.Trails.{went_up_none, went_up_some}
 use Rattle.cb_paths.proofs.trail.Trail.go_up.Goals as goal

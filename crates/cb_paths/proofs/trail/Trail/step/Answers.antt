@@ -1,6 +1,6 @@
-use Rattle.std.proofs.Common.{◌≡◌, true, rules, refl, sym, ◌∙◌, [], ◌∷◌, ap}
+use Rattle.std.proofs.Common.{◌≡◌, true, rules, sym, ◌∙◌}
 use Rattle.cb_paths.specs.Parts.{is_kept}
-use Rattle.cb_paths.proofs.Trails.{entered, skipped, taken, plain_from}
+use Rattle.cb_paths.proofs.Trails.{entered, taken, plain_from}
 use Rattle.cb_paths.proofs.trail.Trail.step.Goals as goal
 
 pub returns : goal.returns

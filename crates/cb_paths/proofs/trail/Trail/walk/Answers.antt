@@ -1,6 +1,5 @@
-use Rattle.std.proofs.Common.{◌≡◌, List, ℕ, Option, Some, [], ◌∷◌, ◌++◌, refl, sym, subst, ap, ◌∙◌, append_assoc}
+use Rattle.std.proofs.Common.{◌≡◌, Some, [], ◌∷◌, ◌++◌, sym, subst, ap, ◌∙◌, append_assoc}
 use Rattle.std.specs.List.{filter}
-use Rattle.std.specs.Borrow.{Bor}
 use Rattle.cb_paths.specs.Parts.{is_kept, parts_of}
 use Rattle.cb_paths.proofs.Splitting.{parts_left, parts_cut}
 use Rattle.cb_paths.proofs.trail.Trail.walk.Goals as goal
