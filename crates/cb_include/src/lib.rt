@@ -1,0 +1,16 @@
+//! Commands of a compiler as plain values, and where the headers that they include are looked for.
+#![tactic(auto)]
+
+mod command;
+mod dir_list;
+mod header;
+mod op;
+mod op_list;
+mod present;
+
+pub use command::Command;
+pub use dir_list::Dirs;
+pub use header::{Header, Origin};
+pub use op::Op;
+pub use op_list::Ops;
+pub use present::Present;
