@@ -6,11 +6,13 @@ use cb_paths::{Dir, Language, Path, Texts};
 
 /// What a compiler is told of one source, as far as its preprocessing depends on it (GCC's manual, "Options for Directory Search" and
 /// "Options Controlling the Preprocessor").
-#[derive(Drop)]
+#[derive(Drop, PartialEq, Eq)]
+#[derive_where(Hash)]
 pub struct Command {
     /// The source.
     pub main: Path,
-    /// The language that it is in.
+    /// The language that it is in. Mostly the suffix of the source gives it, so hashes leave it out.
+    #[derive_where(skip(Hash))]
     pub language: Language,
     /// The words of `-D` and `-U` in order.
     pub ops: Ops,

@@ -2,8 +2,10 @@
 #![tactic(auto)]
 
 mod command;
+mod compare;
 mod dir_list;
 mod header;
+mod laws;
 mod op;
 mod op_list;
 mod present;
@@ -11,6 +13,7 @@ mod present;
 pub use command::Command;
 pub use dir_list::Dirs;
 pub use header::{Header, Origin};
+pub use laws::same_values;
 pub use op::Op;
 pub use op_list::Ops;
 pub use present::Present;
