@@ -6,14 +6,18 @@ mod compare;
 mod dir_list;
 mod header;
 mod laws;
+mod once;
 mod op;
 mod op_list;
 mod present;
+mod probes;
 
 pub use command::Command;
 pub use dir_list::Dirs;
 pub use header::{Header, Origin};
 pub use laws::same_values;
+pub use once::Once;
 pub use op::Op;
 pub use op_list::Ops;
 pub use present::Present;
+pub use probes::Probes;
