@@ -1,1 +1,3 @@
+mod Angled
+mod Chained
 mod Decided

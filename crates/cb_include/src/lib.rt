@@ -11,6 +11,7 @@ mod op;
 mod op_list;
 mod present;
 mod probes;
+mod searching;
 
 pub use command::Command;
 pub use dir_list::Dirs;
@@ -21,3 +22,4 @@ pub use op::Op;
 pub use op_list::Ops;
 pub use present::Present;
 pub use probes::Probes;
+pub use searching::search;
