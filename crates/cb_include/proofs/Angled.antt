@@ -6,10 +6,9 @@ use Rattle.cb_include.specs.Candidates.{folders, named_in, candidates}
 use Rattle.cb_include.specs.inner.Finding.{Finds}
 use Rattle.cb_include.specs.declared.command.Command.{Command}
 use Rattle.cb_include.specs.declared.header.Header.{Header}
-use Rattle.cb_include.specs.declared.header.Origin.{Origin}
 
 -- what the -I folders give is what the candidates give
-pub first_of_angle : {E : Type 0} (p : List ℕ → Bool) (command : Command) (from : Origin) (header : Header)
+pub first_of_angle : {E : Type 0} (p : List ℕ → Bool) (command : Command) (from : Option (List ℕ)) (header : Header)
     (old new : List (List ℕ)) (r : Result (Option (List ℕ)) E) → is_absolute header.text ≡ false → header.angle ≡ true
     → IfOk r (λ found. Finds p old (named_in command header.text command.angle) found new)
     → IfOk r (λ found. found ≡ find p (candidates command from header))

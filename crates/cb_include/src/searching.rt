@@ -3,7 +3,7 @@ ghost use Rattle.std.specs.Prelude.{◌≡◌, false, ◌∷◌, [], IfOk, OnOk}
 ghost use Rattle.std.specs.List.{find, filter_map};
 ghost use Rattle.std.specs.Option.{option_to_list};
 ghost use Rattle.cb_paths.specs.Paths.{is_absolute, file_at};
-ghost use Rattle.cb_include.specs.Candidates.{nearest, folders, named_in, candidates};
+ghost use Rattle.cb_include.specs.Candidates.{including, nearest, folders, named_in, candidates};
 ghost use Rattle.cb_include.specs.Seen.{with_paths, up_to};
 ghost use Rattle.cb_include.specs.inner.Finding.{Finds};
 
@@ -27,9 +27,9 @@ pub fn search<F: Present>(
     header: &Header,
     probes: &mut Probes,
 ) -> Result<Option<Path>, NoMemory>
-    ensures found { IfOk result (λ found. found ≡ find (F.holds files.now) (candidates command.now from.entry header.now)) }
+    ensures found { IfOk result (λ found. found ≡ find (F.holds files.now) (candidates command.now (including from.entry) header.now)) }
     ensures probed { OnOk result (probes.new
-        ≡ with_paths probes.old (up_to (F.holds files.now) (candidates command.now from.entry header.now))) }
+        ≡ with_paths probes.old (up_to (F.holds files.now) (candidates command.now (including from.entry) header.now))) }
 {
     let text = &header.text;
     if is_absolute(text) {
@@ -61,7 +61,7 @@ fn look_in_all<F: Present>(
     probes: &mut Probes,
 ) -> Result<Option<Path>, NoMemory>
     ensures { IfOk result (λ found. Finds (F.holds files.now) probes.old
-        (named_in command.now text.now (folders command.now from.entry false)) found probes.new) }
+        (named_in command.now text.now (folders command.now (including from.entry) false)) found probes.new) }
 {
     if let Some(path) = look_nearest(alloc, files, command, from, text, probes)? {
         return Ok(Some(path));
@@ -82,7 +82,7 @@ fn look_nearest<F: Present>(
     probes: &mut Probes,
 ) -> Result<Option<Path>, NoMemory>
     ensures { IfOk result (λ found. Finds (F.holds files.now) probes.old
-        (named_in command.now text.now (nearest command.now from.entry)) found probes.new) }
+        (named_in command.now text.now (nearest command.now (including from.entry))) found probes.new) }
 {
     match from {
         Origin::Start => look_in(alloc, files, text, &command.work, &command.root, probes),
