@@ -1,3 +1,5 @@
+mod Added
+mod Agreeing
 mod Angled
 mod Chained
 mod Decided

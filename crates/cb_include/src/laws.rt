@@ -1,6 +1,8 @@
-//! Laws of commands.
-ghost use Rattle.std.specs.Prelude.{◌≡◌};
+//! Laws of commands, of searches and of the paths that they ask for.
+ghost use Rattle.std.specs.Prelude.{◌≡◌, ℕ, Bool, true, ◌||◌, ◌++◌, List, Some};
 ghost use Rattle.std.specs.Bool.{Decides};
+ghost use Rattle.std.specs.List.{find};
+ghost use Rattle.cb_include.specs.Seen.{has_path, with_paths, up_to};
 ghost use Rattle.cb_include.specs.declared.op.Op.{Op};
 ghost use Rattle.cb_include.specs.declared.command.Command.{Command};
 
@@ -11,4 +13,26 @@ use crate::op::Op;
 pub fn same_values()
     ensures ops { (some other : Op) → Decides (⟦<Op as PartialEq>⟧.eq some other) (some ≡ other) }
     ensures commands { (some other : Command) → Decides (⟦<Command as PartialEq>⟧.eq some other) (some ≡ other) }
+{}
+
+/// A search asks only for its probes: where other files agree with some on the paths up to the first of these that is present, the
+/// first of the others is the same, and so are the paths up to it. And the path that is found is present and among those.
+pub fn one_search()
+    ensures found { (some other : List ℕ → Bool) (paths : List (List ℕ))
+        → ((path : List ℕ) → has_path (up_to some paths) path ≡ true → some path ≡ other path)
+        → find other paths ≡ find some paths }
+    ensures probed { (some other : List ℕ → Bool) (paths : List (List ℕ))
+        → ((path : List ℕ) → has_path (up_to some paths) path ≡ true → some path ≡ other path)
+        → up_to other paths ≡ up_to some paths }
+    ensures present { (some : List ℕ → Bool) (found : List ℕ) (paths : List (List ℕ)) → find some paths ≡ Some found
+        → some found ≡ true }
+    ensures asked { (some : List ℕ → Bool) (found : List ℕ) (paths : List (List ℕ)) → find some paths ≡ Some found
+        → has_path (up_to some paths) found ≡ true }
+{}
+
+/// Paths that are added stand behind those that are there, which keep their places, and none but these are there then.
+pub fn added_paths()
+    ensures has { (old others : List (List ℕ)) (path : List ℕ)
+        → has_path (with_paths old others) path ≡ (has_path old path || has_path others path) }
+    ensures longer { (old others : List (List ℕ)) → (more : List (List ℕ)) × (with_paths old others ≡ old ++ more) }
 {}

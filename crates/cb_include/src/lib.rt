@@ -16,7 +16,7 @@ mod searching;
 pub use command::Command;
 pub use dir_list::Dirs;
 pub use header::{Header, Origin};
-pub use laws::same_values;
+pub use laws::{added_paths, one_search, same_values};
 pub use once::Once;
 pub use op::Op;
 pub use op_list::Ops;
