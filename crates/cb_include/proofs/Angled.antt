@@ -1,5 +1,5 @@
 -- A header between `<` and `>`.
-use Rattle.std.proofs.Common.{◌≡◌, ℕ, Bool, true, false, cond, List, [], ◌∷◌, sym, ap, ◌∙◌, Option, Result, Ok, Err, IfOk}
+use Rattle.std.proofs.Common.{◌≡◌, ℕ, Bool, true, false, cond, List, [], ◌∷◌, sym, ◌∙◌, Option, Result, Ok, Err, IfOk}
 use Rattle.std.specs.List.{find}
 use Rattle.cb_paths.specs.Paths.{is_absolute}
 use Rattle.cb_include.specs.Candidates.{folders, named_in, candidates}

@@ -1,5 +1,5 @@
 -- A search over candidates and then over others.
-use Rattle.std.proofs.Common.{◌≡◌, ℕ, Bool, true, false, cond, List, [], ◌∷◌, ◌++◌, refl, sym, ap, subst, ◌∙◌, Option, None, Some, suc, ◌+◌, ◌<◌, length, get_or, drop, drop-cons, add-one, Result, IfOk}
+use Rattle.std.proofs.Common.{◌≡◌, ℕ, Bool, true, false, cond, List, [], ◌∷◌, ◌++◌, refl, sym, ap, ◌∙◌, Option, None, Some, suc, ◌+◌, ◌<◌, length, get_or, drop, drop-cons, add-one, Result, IfOk}
 use Rattle.std.specs.List.{find, filter_map, cons_option}
 use Rattle.std.specs.Option.{option_or, option_to_list}
 use Rattle.std.proofs.lemmas.List.Folds.{find-append}
