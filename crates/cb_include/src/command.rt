@@ -4,8 +4,8 @@ use crate::dir_list::Dirs;
 use crate::op_list::Ops;
 use cb_paths::{Dir, Language, Path, Texts};
 
-/// What a compiler is told of one source, as far as its preprocessing depends on it (GCC's manual, "Options for Directory Search" and
-/// "Options Controlling the Preprocessor").
+/// What a compiler is told of one source, as far as its preprocessing depends on it (GCC's manual, "Options for
+/// Directory Search" and "Options Controlling the Preprocessor").
 #[derive(Drop, PartialEq, Eq)]
 #[derive_where(Hash)]
 pub struct Command {

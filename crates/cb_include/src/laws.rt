@@ -15,8 +15,9 @@ pub fn same_values()
     ensures commands { (some other : Command) → Decides (⟦<Command as PartialEq>⟧.eq some other) (some ≡ other) }
 {}
 
-/// A search asks only for its probes: where other files agree with some on the paths up to the first of these that is present, the
-/// first of the others is the same, and so are the paths up to it. And the path that is found is present and among those.
+/// A search depends on nothing but its probes: where a second test agrees with a first one on the paths up to the first
+/// that passes, it finds the same path, after the same ones. And the path that is found passes, and is among those
+/// asked for.
 pub fn one_search()
     ensures found { (some other : List ℕ → Bool) (paths : List (List ℕ))
         → ((path : List ℕ) → has_path (up_to some paths) path ≡ true → some path ≡ other path)
@@ -30,7 +31,7 @@ pub fn one_search()
         → has_path (up_to some paths) found ≡ true }
 {}
 
-/// Paths that are added stand behind those that are there, which keep their places, and none but these are there then.
+/// Paths that are added stand behind those that are there, which keep their places; and no other path is there then.
 pub fn added_paths()
     ensures has { (old others : List (List ℕ)) (path : List ℕ)
         → has_path (with_paths old others) path ≡ (has_path old path || has_path others path) }

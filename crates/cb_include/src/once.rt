@@ -7,8 +7,8 @@ use cb_paths::{NoMemory, Path};
 use std::alloc::Global;
 use std::marker::Model;
 
-/// The paths of the sources that have said `#pragma once` (GCC's manual, "Alternatives to Wrapper #ifndef"), in the order in which
-/// they first said it. Contracts see them as the list of these.
+/// The paths of the sources that have said `#pragma once` (GCC's manual, "Alternatives to Wrapper #ifndef"), in the
+/// order in which they first said it. Contracts see them as the list of these.
 #[derive(Drop)]
 pub struct Once {
     paths: Probes,

@@ -3,10 +3,11 @@
 use cb_paths::{Bytes, NoMemory};
 use std::alloc::Global;
 
-/// What one `-D` or `-U` does to the macros before a source is read (GCC's manual, "Options Controlling the Preprocessor").
+/// What one `-D` or `-U` does to the macros before a source is read (GCC's manual, "Options Controlling the
+/// Preprocessor").
 #[derive(Drop, PartialEq, Eq, Hash)]
 pub enum Op {
-    /// The word behind `-D`: a name, or a name with its parameters, and then mostly `=` and the replacement.
+    /// The word behind `-D`: a name, perhaps with parameters, and then mostly `=` and what replaces it.
     Define(Bytes),
     /// The word behind `-U`: a name.
     Undef(Bytes),

@@ -15,10 +15,12 @@ use crate::probes::Probes;
 use cb_paths::{Bytes, Dir, NoMemory, Path, PathFault};
 use std::alloc::Global;
 
-/// The path of a header that a command includes, if one of its candidates is present: the first of these, in the folder of the source
-/// that includes (at the start, the working folder), in those of `-iquote`, of `-I` and of `-isystem`, the former two only where the
-/// header stands between quotes. A header that begins with a slash is looked for as it is. The candidates up to the answer, or all, are
-/// added to the probes. Its one error is want of memory, after which the probes may have any paths.
+/// The path of a header that a command includes: the first of its candidates that is present, if one is. They stand in
+/// the folder of the source that includes (at the start, in the working folder), in those of `-iquote`, of `-I` and of
+/// `-isystem`, in this order; the first two only where the header stands between quotes. A header that begins with a
+/// slash is looked for where it says. What is no path below the command's root is no candidate. The candidates up to
+/// the answer, or all, are added to the probes. Its one error is being out of memory, after which the probes may hold
+/// any paths.
 pub fn search<F: Present>(
     alloc: Global,
     files: &F,
@@ -27,9 +29,10 @@ pub fn search<F: Present>(
     header: &Header,
     probes: &mut Probes,
 ) -> Result<Option<Path>, NoMemory>
-    ensures found { IfOk result (λ found. found ≡ find (F.holds files.now) (candidates command.now (including from.entry) header.now)) }
-    ensures probed { OnOk result (probes.new
-        ≡ with_paths probes.old (up_to (F.holds files.now) (candidates command.now (including from.entry) header.now))) }
+    ensures found { IfOk result (λ found. found
+        ≡ find (F.holds files.now) (candidates command.now (including from.entry) header.now)) }
+    ensures probed { OnOk result (probes.new ≡ with_paths probes.old
+        (up_to (F.holds files.now) (candidates command.now (including from.entry) header.now))) }
 {
     let text = &header.text;
     if is_absolute(text) {

@@ -20,8 +20,8 @@ impl Present for Listed {
     }
 }
 
-/// A search: the source that includes, or nothing at the start; the header as it stands in a directive; the files that are there; and
-/// then the paths that are asked for, the last of which is found where `found` says so.
+/// A search: the source that includes, or nothing at the start; the header as it stands in a directive; the files that
+/// are there; and then the paths that are asked for, the last of which is found where `found` says so.
 #[derive(Clone, Copy)]
 struct Row {
     from: &'static [u8],
