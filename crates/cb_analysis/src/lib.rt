@@ -1,8 +1,15 @@
 //! Analysis files: the platforms of an analysis, and the patterns that tell which sources count.
 #![tactic(auto)]
 
+mod analysis;
 mod cut;
+mod fault;
 mod part;
 mod parts;
 mod pattern;
+mod platform;
 mod run;
+
+pub use analysis::Analysis;
+pub use fault::{AnalysisFault, AnalysisKind, BadAnalysis};
+pub use platform::Platform;

@@ -1,5 +1,5 @@
 //! Patterns, which exclude sources or keep them from being loaded.
-ghost use Rattle.std.specs.Prelude.{◌≡◌, Some, None, not, if◌then◌else◌, IfOk};
+ghost use Rattle.std.specs.Prelude.{◌≡◌, ◌||◌, nat_lt, length, Some, None, not, if◌then◌else◌, IfOk};
 ghost use Rattle.std.specs.List.{list_any, list_all};
 ghost use Rattle.cb_paths.specs.Paths.{is_absolute};
 ghost use Rattle.cb_analysis.specs.Fits.{is_empty};
@@ -95,6 +95,13 @@ fn parts_in(alloc: Global, text: &[u8]) -> Result<Option<Texts>, NoMemory>
     Ok(Some(parts))
 }
 
+/// Whether a pattern of these parts is anchored.
+fn is_anchored(text: &[u8], parts: &Texts) -> bool
+    ensures { result ≡ (is_absolute text.now || nat_lt 1 (length parts.now)) }
+{
+    is_absolute(text) || parts.len() > 1
+}
+
 impl Pattern {
     /// The pattern that a text is. None where it holds a `!`, a `[` or a backslash, or where one of its parts is empty.
     pub(crate) fn read(alloc: Global, text: &[u8]) -> Result<Option<Pattern>, NoMemory>
@@ -108,7 +115,7 @@ impl Pattern {
             return Ok(None);
         };
         Ok(Some(Pattern {
-            is_anchored: is_absolute(text) || parts.len() > 1,
+            is_anchored: is_anchored(text, &parts),
             is_folder: ends_with_slash(unrooted),
             parts,
         }))

@@ -1,0 +1,106 @@
+-- The faults of an analysis, as a list in their order, of which the first decides (own).
+use Rattle.std.specs.Prelude.{◌≡◌, ℕ, nat_lt, nat_le, Bool, true, false, List, [], ◌∷◌, ◌++◌, length, map, Option, Some, None, is_some, codes, decimal, option_and_then}
+use Rattle.std.specs.List.{flat_map, enumerate_from}
+use Rattle.toml.specs.Data.{Data, Members, get, as_str}
+use Rattle.cb_paths.specs.Names.{is_name}
+use Rattle.cb_paths.specs.Paths.{path_of}
+use Rattle.cb_analysis.specs.Tables.{is_text, is_table, is_text_list, is_absent_or, texts_in, at_key, platform_at, entries_in, codebase_at}
+use Rattle.cb_analysis.specs.Patterns.{is_pattern}
+use Rattle.cb_analysis.specs.declared.fault.AnalysisKind.{AnalysisKind}
+use Rattle.cb_analysis.specs.declared.fault.AnalysisKind.TheVariants.{NotToml, NoPlatform, BadName, NoCommands, WrongType, BadPattern, TooMany, BadPath}
+use Rattle.cb_analysis.specs.declared.fault.BadAnalysis.{BadAnalysis}
+use Rattle.cb_analysis.specs.declared.fault.AnalysisFault.{AnalysisFault}
+use Rattle.cb_analysis.specs.declared.fault.AnalysisFault.TheVariants.{Bad, NoMemory}
+
+-- the number and the name of a kind, as answers give them
+abbrev pub kind_number : AnalysisKind → ℕ
+kind_number NotToml = 1
+kind_number NoPlatform = 2
+kind_number BadName = 3
+kind_number NoCommands = 4
+kind_number WrongType = 5
+kind_number BadPattern = 6
+kind_number TooMany = 7
+kind_number BadPath = 8
+
+abbrev pub kind_name : AnalysisKind → List ℕ
+kind_name NotToml = codes "NotToml"
+kind_name NoPlatform = codes "NoPlatform"
+kind_name BadName = codes "BadName"
+kind_name NoCommands = codes "NoCommands"
+kind_name WrongType = codes "WrongType"
+kind_name BadPattern = codes "BadPattern"
+kind_name TooMany = codes "TooMany"
+kind_name BadPath = codes "BadPath"
+
+-- the first fault of a list of possible ones
+abbrev pub first_of : List (Option BadAnalysis) → Option BadAnalysis
+first_of [] = None
+first_of (None ∷ faults) = first_of faults
+first_of (Some bad ∷ faults) = Some bad
+
+-- a fault of this kind at this place, unless a test holds
+abbrev pub unless : Bool → AnalysisKind → List ℕ → Option BadAnalysis
+unless true kind place = None
+unless false kind place = Some (record { kind = kind; place = place })
+
+-- the place of a platform, or of a key in it
+abbrev pub in_platform : List ℕ → List ℕ → List ℕ
+in_platform name key = codes "platform." ++ name ++ key
+
+-- the place of a pattern of a list, by its number from 0
+abbrev pub in_list : List ℕ → ℕ → List ℕ
+in_list place at = place ++ codes "." ++ decimal at
+
+-- the text and the path at `commands`, if there is one
+abbrev pub commands_text : Data → Option (List ℕ)
+commands_text d = option_and_then as_str (get (codes "commands") d)
+
+abbrev pub commands_path : Data → Option (List ℕ)
+commands_path d = option_and_then path_of (commands_text d)
+
+-- the faults of a platform
+abbrev pub platform_faults : List ℕ × Data → List (Option BadAnalysis)
+platform_faults (name, d) =
+    unless (is_name name) BadName (in_platform name [])
+    ∷ unless (is_table d) WrongType (in_platform name [])
+    ∷ unless (is_some (get (codes "commands") d)) NoCommands (in_platform name (codes ".commands"))
+    ∷ unless (is_some (commands_text d)) WrongType (in_platform name (codes ".commands"))
+    ∷ unless (is_some (commands_path d)) BadPath (in_platform name (codes ".commands"))
+    ∷ []
+
+-- the faults of the platforms: first those of their table, then those of each by the bytes of the names
+abbrev pub platforms_faults : Members → List (Option BadAnalysis)
+platforms_faults t =
+    unless (is_absent_or is_table (platform_at t)) WrongType (codes "platform")
+    ∷ unless (nat_lt 0 (length (entries_in (platform_at t)))) NoPlatform (codes "platform")
+    ∷ unless (nat_le (length (entries_in (platform_at t))) 32) TooMany (codes "platform")
+    ∷ flat_map platform_faults (entries_in (platform_at t))
+
+-- the faults of patterns, of which the first has this number
+abbrev pub pattern_faults : List ℕ → ℕ → List (List ℕ) → List (Option BadAnalysis)
+pattern_faults place at texts = map (λ (n, text). unless (is_pattern text) BadPattern (in_list place n)) (enumerate_from at texts)
+
+-- the faults of a list of patterns
+abbrev pub list_faults : List ℕ → Option Data → List (Option BadAnalysis)
+list_faults place value =
+    unless (is_absent_or is_text_list value) WrongType place
+    ∷ unless (nat_le (length (texts_in value)) 1000) TooMany place
+    ∷ pattern_faults place 0 (texts_in value)
+
+-- the faults of the table `codebase`
+abbrev pub codebase_faults : Option Data → List (Option BadAnalysis)
+codebase_faults codebase =
+    unless (is_absent_or is_table codebase) WrongType (codes "codebase")
+    ∷ unless (is_absent_or is_text (at_key (codes "root") codebase)) WrongType (codes "codebase.root")
+    ∷ (list_faults (codes "codebase.exclude") (at_key (codes "exclude") codebase)
+      ++ list_faults (codes "codebase.skip") (at_key (codes "skip") codebase))
+
+-- all faults of an analysis
+abbrev pub faults_of : Members → List (Option BadAnalysis)
+faults_of t = platforms_faults t ++ codebase_faults (codebase_at t)
+
+-- a refusal for another cause than memory gives this fault
+abbrev pub Tells : AnalysisFault → Option BadAnalysis → Type 0
+Tells (Bad bad) fault = fault ≡ Some bad
+Tells NoMemory fault = Unit {0}

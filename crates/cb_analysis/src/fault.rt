@@ -1,0 +1,129 @@
+//! What is wrong with an analysis.
+ghost use Rattle.std.specs.Prelude.{◌≡◌};
+ghost use Rattle.cb_analysis.specs.Faults.{kind_number, kind_name};
+
+use cb_paths::{Bytes, NoMemory};
+use std::alloc::AllocFailed;
+use std::fmt;
+use thiserror::Error;
+
+/// What is wrong with an analysis.
+#[derive(Clone, Copy, Debug, PartialEq, Eq, Error)]
+pub enum AnalysisKind {
+    /// The file is no TOML document.
+    #[error("the file is no TOML document")]
+    NotToml,
+    /// There is no platform.
+    #[error("there is no platform")]
+    NoPlatform,
+    /// The name of a platform is none that a platform may have.
+    #[error("a platform cannot have this name")]
+    BadName,
+    /// A platform has no `commands`.
+    #[error("the platform has no commands")]
+    NoCommands,
+    /// A value is of another type than its key wants.
+    #[error("the value is of a wrong type")]
+    WrongType,
+    /// A text is no pattern.
+    #[error("the text is no pattern")]
+    BadPattern,
+    /// There are too many platforms, or too many patterns in a list.
+    #[error("there are too many of them")]
+    TooMany,
+    /// A text is no path below the top.
+    #[error("the text is no path")]
+    BadPath,
+}
+
+impl AnalysisKind {
+    /// Its number, from 1 to 8.
+    pub fn number(self) -> u32
+        ensures { result ≡ kind_number self }
+    {
+        match self {
+            AnalysisKind::NotToml => 1,
+            AnalysisKind::NoPlatform => 2,
+            AnalysisKind::BadName => 3,
+            AnalysisKind::NoCommands => 4,
+            AnalysisKind::WrongType => 5,
+            AnalysisKind::BadPattern => 6,
+            AnalysisKind::TooMany => 7,
+            AnalysisKind::BadPath => 8,
+        }
+    }
+
+    /// Its name, that of the variant.
+    pub fn name(self) -> &'static str
+        ensures { result.now ≡ kind_name self }
+    {
+        match self {
+            AnalysisKind::NotToml => "NotToml",
+            AnalysisKind::NoPlatform => "NoPlatform",
+            AnalysisKind::BadName => "BadName",
+            AnalysisKind::NoCommands => "NoCommands",
+            AnalysisKind::WrongType => "WrongType",
+            AnalysisKind::BadPattern => "BadPattern",
+            AnalysisKind::TooMany => "TooMany",
+            AnalysisKind::BadPath => "BadPath",
+        }
+    }
+}
+
+/// The first fault of an analysis.
+#[derive(Drop)]
+pub struct BadAnalysis {
+    /// What is wrong.
+    pub kind: AnalysisKind,
+    /// Where it is wrong: the key, with a dot between its parts; for a pattern with its number in the list, from 0. Names stand in it as
+    /// they are. Empty where the file is no TOML document.
+    pub place: Bytes,
+}
+
+impl fmt::Display for BadAnalysis {
+    fn fmt<W: fmt::Write>(&self, f: &mut fmt::Formatter<W>) -> fmt::Result {
+        match std::str::from_utf8(self.place.as_slice()) {
+            Ok(place) => write!(f, "{place}: {}", self.kind),
+            Err(_) => write!(f, "{}", self.kind),
+        }
+    }
+}
+
+impl fmt::Debug for BadAnalysis {
+    fn fmt<W: fmt::Write>(&self, f: &mut fmt::Formatter<W>) -> fmt::Result {
+        write!(f, "{self}")
+    }
+}
+
+/// Why an analysis is not read.
+#[derive(Debug, Drop, Error)]
+pub enum AnalysisFault {
+    /// The file is no analysis.
+    #[error("{0}")]
+    Bad(BadAnalysis),
+    /// There was not enough memory.
+    #[error("out of memory")]
+    NoMemory,
+}
+
+impl From<NoMemory> for AnalysisFault {
+    ghost use Rattle.std.specs.Prelude.{◌≡◌};
+    ghost use Rattle.cb_analysis.specs.declared.fault.AnalysisFault.TheVariants as fault;
+
+    ghost from_gives = { λ _ e. e ≡ fault.NoMemory };
+
+    fn from(_error: NoMemory) -> AnalysisFault {
+        AnalysisFault::NoMemory
+    }
+}
+
+impl<T: Drop> From<AllocFailed<T>> for AnalysisFault {
+    ghost use Rattle.std.specs.Prelude.{◌≡◌};
+    ghost use Rattle.cb_analysis.specs.declared.fault.AnalysisFault.TheVariants as fault;
+
+    ghost from_gives = { λ _ e. e ≡ fault.NoMemory };
+
+    fn from(_error: AllocFailed<T>) -> AnalysisFault {
+        AnalysisFault::NoMemory
+    }
+}
