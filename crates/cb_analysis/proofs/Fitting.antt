@@ -36,8 +36,8 @@ any_at : {X : Type 0} (q : List X → Bool) (xs : List X) → list_any q (tails 
 any_at q [] h = (0, omega arith, sym (or_false (q [])) ∙ h)
 any_at q (x ∷ xs) h =
     elim (or_cases (q (x ∷ xs)) (list_any q (tails xs)) h) [
-      inl now ↦ (0, omega arith, now)
-    | inr later ↦ let at = any_at q xs later in (suc at.0, omega arith, at.2)
+      | inl now ↦ (0, omega arith, now)
+      | inr later ↦ let at = any_at q xs later in (suc at.0, omega arith, at.2)
     ]
 
 or_right : (a b : Bool) → b ≡ true → (a || b) ≡ true
@@ -145,7 +145,7 @@ to_next_star : {P X : Type 0} (star : P → Bool) (like : P → X → Bool) (lef
     → behind_star star like left (ps ++ s ∷ behind) xs ≡ passes (behind_star star like left behind) (behind_first like ps xs)
 to_next_star star like left ps s behind xs plain is =
     any_same _ _ (tails xs) (λ t. fits-front star like left ps (s ∷ behind) t plain
-      ∙ passes_same _ _ (behind_front like ps t) (λ l. star_at star like left s behind l is))
+    ∙ passes_same _ _ (behind_front like ps t) (λ l. star_at star like left s behind l is))
     ∙ first_will_do like ps (behind_star star like left behind) (any_closed (fits star like left behind)) xs
 
 nil_behind : {P : Type 0} (ps : List P) → ps ++ [] ≡ ps
@@ -221,7 +221,7 @@ pub cut_front : {P X : Type 0} (star : P → Bool) (like : P → X → Bool) (le
 cut_front star like left pattern front None xs h = rw h.cut (fits-whole star like left front xs h.plain)
 cut_front star like left pattern front (Some rest) xs h =
     rw h.cut.2 (fits-front star like left front (h.cut.0 ∷ rest.now) xs h.plain
-      ∙ passes_same _ _ (behind_front like front xs) (λ l. star_at star like left h.cut.0 rest.now l h.cut.1))
+    ∙ passes_same _ _ (behind_front like front xs) (λ l. star_at star like left h.cut.0 rest.now l h.cut.1))
 
 pub cut_next : {P X : Type 0} (star : P → Bool) (like : P → X → Bool) (left : List X → Bool) (pattern front : List P) (rest : Bor (List P)) (xs : List X)
     → IsCut star pattern front (Some rest) → behind_star star like left pattern xs ≡ passes (behind_star star like left rest.now) (behind_first like front xs)
@@ -297,7 +297,7 @@ pub cut_some : {P : Type 0} (star : P → Bool) (xs front : List P) (n : ℕ) (s
 cut_some star xs front n s rest is f some =
     record {
       plain = rw (f, is) (prefix_plain star xs);
-      cut = (s, star_first star xs s rest.now (rw is at some), sym (take-append-drop n xs) ∙ rw (some, f) refl)
+      cut = (s, star_first star xs s rest.now (rw is at some), sym (take-append-drop n xs) ∙ rw (some, f) refl);
     }
 
 pub none_of : {X : Type 0} (xs : List X) → length xs ≡ 0 → xs ≡ []

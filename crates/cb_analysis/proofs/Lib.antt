@@ -1,2 +1,4 @@
+pub mod Entries
 pub mod Fitting
+pub mod Lists
 pub mod Splitting

@@ -65,4 +65,3 @@ part_case x xs false = first_is_there x (slice_split (λ b. b == 47) xs)
 pub split_some : (text : List ℕ) → false ≡ is_empty (slice_split (λ b. b == 47) text)
 split_some [] = refl
 split_some (x ∷ xs) = part_case x xs (x == 47)
-

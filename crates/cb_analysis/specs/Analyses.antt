@@ -32,7 +32,7 @@ contents_of t = record {
   platforms = filter_map platform_of (entries_in (platform_at t));
   root = option_and_then as_str (at_key (codes "root") (codebase_at t));
   exclude = map pattern_of (texts_in (at_key (codes "exclude") (codebase_at t)));
-  skip = map pattern_of (texts_in (at_key (codes "skip") (codebase_at t)))
+  skip = map pattern_of (texts_in (at_key (codes "skip") (codebase_at t)));
 }
 
 -- the contents of a table, unless it has a fault

@@ -94,7 +94,7 @@ codebase_faults codebase =
     unless (is_absent_or is_table codebase) WrongType (codes "codebase")
     ∷ unless (is_absent_or is_text (at_key (codes "root") codebase)) WrongType (codes "codebase.root")
     ∷ (list_faults (codes "codebase.exclude") (at_key (codes "exclude") codebase)
-      ++ list_faults (codes "codebase.skip") (at_key (codes "skip") codebase))
+    ++ list_faults (codes "codebase.skip") (at_key (codes "skip") codebase))
 
 -- all faults of an analysis
 abbrev pub faults_of : Members → List (Option BadAnalysis)

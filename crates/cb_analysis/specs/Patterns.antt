@@ -40,7 +40,7 @@ unfoldable pub pattern_of : List ℕ → Pattern
 pattern_of text = record {
   is_anchored = is_absolute text || nat_lt 1 (length (parts_of (body text)));
   is_folder = ends_with_slash (unrooted text);
-  parts = parts_of (body text)
+  parts = parts_of (body text);
 }
 
 -- what may follow the parts that a pattern takes: anything, or at least one part (own)

@@ -7,7 +7,11 @@ mod fault;
 mod part;
 mod parts;
 mod pattern;
+mod patterns;
+mod place;
 mod platform;
+mod platforms;
+mod reading;
 mod run;
 
 pub use analysis::Analysis;

@@ -23,7 +23,10 @@ fn front_len(pattern: &[Bytes]) -> usize
     ensures len { result ≡ prefix_len (λ part. not (is_any part)) pattern.now }
     ensures within { result ≤ length pattern.now }
 {
-    pattern.iter().take_while(|part| !is_any(part.as_slice())).count()
+    pattern
+        .iter()
+        .take_while(|part| !is_any(part.as_slice()))
+        .count()
 }
 
 /// What a pattern has before its first `**`, and what it has behind it, if there is one.

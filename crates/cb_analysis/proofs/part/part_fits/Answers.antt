@@ -13,11 +13,11 @@ unfolding part_fits
 returns-in-Some-behind c =
     c.fits_behind_star.ensures
     ∙ sym (cut_front is_star is_like is_empty c.args.pattern.now _ _ c.args.part.now (rw c.in-Some-behind.is at c.cut_at_star.ensures)
-      ∙ at_some _ _ _ c.in-Some.ensures)
+    ∙ at_some _ _ _ c.in-Some.ensures)
 
 pub returns-in-None : goal.returns-in-None
 unfolding part_fits
 returns-in-None c =
     c.is_empty.ensures ∙ empty_length c.in-Some.left.now
     ∙ sym (cut_front is_star is_like is_empty c.args.pattern.now _ _ c.args.part.now (rw c.in-None.is at c.cut_at_star.ensures)
-      ∙ at_some _ _ _ c.in-Some.ensures)
+    ∙ at_some _ _ _ c.in-Some.ensures)

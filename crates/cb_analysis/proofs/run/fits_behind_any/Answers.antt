@@ -8,15 +8,15 @@ use Rattle.cb_analysis.proofs.run.fits_behind_any.Goals as goal
 pub returns-in_default : goal.returns-in_default
 returns-in_default c =
     sym (c.stars.invariant
-      ∙ cut_behind is_any part_fits (may_follow c.args.is_folder) c.stars.pattern.now _ _ (left_of c.stars.path) c.cut_at_any.ensures (may_follow_closed c.args.is_folder)
-      ∙ at_none _ _ c.in_default.ensures)
+    ∙ cut_behind is_any part_fits (may_follow c.args.is_folder) c.stars.pattern.now _ _ (left_of c.stars.path) c.cut_at_any.ensures (may_follow_closed c.args.is_folder)
+    ∙ at_none _ _ c.in_default.ensures)
 
 pub returns-in_default-behind : goal.returns-in_default-behind
 returns-in_default-behind c =
     c.may_follow.ensures
     ∙ sym (c.stars.invariant
-      ∙ cut_behind is_any part_fits (may_follow c.args.is_folder) c.stars.pattern.now _ _ (left_of c.stars.path) (rw c.in_default-behind.is at c.cut_at_any.ensures) (may_follow_closed c.args.is_folder)
-      ∙ at_some _ _ _ c.in-Some.ensures)
+    ∙ cut_behind is_any part_fits (may_follow c.args.is_folder) c.stars.pattern.now _ _ (left_of c.stars.path) (rw c.in_default-behind.is at c.cut_at_any.ensures) (may_follow_closed c.args.is_folder)
+    ∙ at_some _ _ _ c.in-Some.ensures)
 
 pub stars-preserved : goal.stars-preserved
 stars-preserved c =

@@ -34,7 +34,7 @@ returns c =
     let fine : list_any is_refused text ≡ false = sym c.has_refused.ensures ∙ c.if-has_refused.false in
     let told = rw (c.without_end.ensures, c.unrooted-unrooted.ensures) at c.in_ok-parts.ensures in
     let full : (list_all (λ part. not (is_empty part)) (parts_of (body text)) ≡ true) × (c.in-Some.parts ≡ parts_of (body text)) =
-      some_where_true _ _ _ (sym c.in-Some.is ∙ told) in
+    some_where_true _ _ _ (sym c.in-Some.is ∙ told) in
     let anchored : c.is_anchored.result ≡ (is_absolute text || nat_lt 1 (length (parts_of (body text)))) = rw full.1 at c.is_anchored.ensures in
     let folder : c.ends_with_slash.result ≡ ends_with_slash (unrooted text) = rw c.unrooted-unrooted.ensures at c.ends_with_slash.ensures in
     rw (fine, full.0, anchored, folder, full.1) refl
