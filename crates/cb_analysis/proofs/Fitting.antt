@@ -148,7 +148,7 @@ to_next_star star like left ps s behind xs plain is =
     ∙ passes_same _ _ (behind_front like ps t) (λ l. star_at star like left s behind l is))
     ∙ first_will_do like ps (behind_star star like left behind) (any_closed (fits star like left behind)) xs
 
-nil_behind : {P : Type 0} (ps : List P) → ps ++ [] ≡ ps
+pub nil_behind : {P : Type 0} (ps : List P) → ps ++ [] ≡ ps
 nil_behind [] = refl
 nil_behind (p ∷ ps) = ap (λ qs. p ∷ qs) (nil_behind ps)
 

@@ -14,6 +14,8 @@ use Rattle.cb_analysis.specs.declared.pattern.Pattern.{Pattern}
 use Rattle.cb_analysis.specs.declared.platform.Platform.{Platform}
 use Rattle.cb_analysis.specs.declared.fault.AnalysisKind.TheVariants.{NotToml}
 use Rattle.cb_analysis.specs.declared.fault.BadAnalysis.{BadAnalysis}
+use Rattle.cb_analysis.specs.declared.fault.AnalysisFault.{AnalysisFault}
+use Rattle.cb_analysis.specs.declared.fault.AnalysisFault.TheVariants.{Bad, NoMemory}
 
 -- the platforms, the root of the databases, and the patterns of sources that do not count and of files that are not loaded
 pub record Contents : Type 0 where
@@ -51,6 +53,11 @@ reading_of (Some t) = unless_faulty (first_of (faults_of t)) (contents_of t)
 -- what a file says, or its first fault
 unfoldable pub analysis : List ℕ → Result Contents BadAnalysis
 analysis bytes = reading_of (table_of bytes)
+
+-- a refusal for another cause than memory is that of the file
+abbrev pub Refuses : AnalysisFault → Result Contents BadAnalysis → Type 0
+Refuses (Bad bad) answer = answer ≡ Err bad
+Refuses NoMemory answer = Unit {0}
 
 -- the names of platforms
 abbrev pub names_of : List Platform → List (List ℕ)

@@ -4,6 +4,7 @@
 mod analysis;
 mod cut;
 mod fault;
+mod laws;
 mod part;
 mod parts;
 mod pattern;
@@ -16,4 +17,6 @@ mod run;
 
 pub use analysis::Analysis;
 pub use fault::{AnalysisFault, AnalysisKind, BadAnalysis};
+pub use laws::one_reading;
 pub use platform::Platform;
+pub use reading::read;

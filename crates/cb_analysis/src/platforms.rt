@@ -1,13 +1,11 @@
 //! The platforms of an analysis.
-ghost use Rattle.std.specs.Prelude.{◌≡◌, Some, None, map, IfOk, IfErr};
+ghost use Rattle.std.specs.Prelude.{◌≡◌, ◌≤◌, Some, None, map, IfOk, IfErr};
 ghost use Rattle.std.specs.List.{filter_map, flat_map};
-ghost use Rattle.std.specs.List.Sorted.{IsStrictlySortedBy};
-ghost use Rattle.std.specs.Ordering.{nat_cmp};
-ghost use Rattle.std.specs.Cmp.Lexicographic.{slice_cmp};
+ghost use Rattle.std.specs.BTreeMap.{btree_map_len};
 ghost use Rattle.toml.specs.View.{view, table_view};
 ghost use Rattle.cb_analysis.specs.Tables.{entries_of, entries_in, platform_at};
 ghost use Rattle.cb_analysis.specs.Faults.{first_of, platform_faults, platforms_faults, commands_path, Tells};
-ghost use Rattle.cb_analysis.specs.Analyses.{platform_of, names_of, ArePlatforms};
+ghost use Rattle.cb_analysis.specs.Analyses.{platform_of, ArePlatforms};
 
 use crate::fault::{AnalysisFault, AnalysisKind};
 use crate::place::{bad, bad_platform};
@@ -63,9 +61,10 @@ fn read_platform(alloc: Global, name: &[u8], value: &Value) -> Result<Platform, 
 
 /// The platforms of the entries of a table, in their order, or the first fault of them.
 fn fill(alloc: Global, entries: &Table) -> Result<Vec<Platform>, AnalysisFault>
+    requires { btree_map_len entries.now ≤ 32 }
     ensures fine { IfOk result (λ _. first_of (flat_map platform_faults (entries_of (table_view entries.now))) ≡ None) }
     ensures platforms { IfOk result (λ platforms. platforms.items ≡ filter_map platform_of (entries_of (table_view entries.now))) }
-    ensures rising { IfOk result (λ platforms. IsStrictlySortedBy (slice_cmp nat_cmp) (names_of platforms.items)) }
+    ensures valid { IfOk result (λ platforms. ArePlatforms platforms.items) }
     ensures bad { IfErr result (λ e. Tells e (first_of (flat_map platform_faults (entries_of (table_view entries.now))))) }
 {
     let mut platforms = Vec::new(alloc);

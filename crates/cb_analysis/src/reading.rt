@@ -1,20 +1,22 @@
 //! A file is read.
-ghost use Rattle.std.specs.Prelude.{◌≡◌, Some, None, IfOk, IfErr, Ok, Err, option_map, option_and_then, codes};
+ghost use Rattle.std.specs.Prelude.{◌≡◌, None, [], IfOk, IfErr, Ok, option_map, option_and_then, codes};
 ghost use Rattle.toml.specs.Data.{get_member, as_str};
+ghost use Rattle.toml.specs.Errors.{IsMemory};
 ghost use Rattle.toml.specs.View.{view, table_view};
 ghost use Rattle.cb_analysis.specs.Tables.{codebase_at, at_key, is_table, is_text, is_absent_or};
 ghost use Rattle.cb_analysis.specs.Faults.{first_of, faults_of, codebase_faults, unless, platforms_faults, Tells};
-ghost use Rattle.cb_analysis.specs.Analyses.{analysis, contents_of, unless_faulty};
+ghost use Rattle.cb_analysis.specs.Analyses.{analysis, contents_of, unless_faulty, Refuses};
 ghost use Rattle.cb_analysis.specs.declared.fault.BadAnalysis.{BadAnalysis};
-ghost use Rattle.cb_analysis.specs.declared.fault.AnalysisKind.TheVariants.{WrongType};
+ghost use Rattle.cb_analysis.specs.declared.fault.AnalysisKind.TheVariants.{WrongType, NotToml};
 
 use crate::analysis::Analysis;
-use crate::fault::{AnalysisFault, AnalysisKind};
+use crate::fault::{AnalysisFault, AnalysisKind, BadAnalysis};
 use crate::patterns::read_patterns;
 use crate::place::bad;
 use crate::platforms::read_platforms;
 use cb_paths::Bytes;
 use std::alloc::Global;
+use toml::de::Error;
 use toml::{Table, Value};
 
 /// What stands at a key of a table.
@@ -66,4 +68,47 @@ fn read_root(alloc: Global, value: Option<&Value>) -> Result<Option<Bytes>, Anal
     };
     let root = Bytes::from_slice(alloc, text.as_bytes())?;
     Ok(Some(root))
+}
+
+/// What a table says, or its first fault.
+fn read_table(alloc: Global, table: &Table) -> Result<Analysis, AnalysisFault>
+    ensures contents { IfOk result (λ a. unless_faulty (first_of (faults_of (table_view table.now))) (contents_of (table_view table.now)) ≡ Ok a) }
+    ensures bad { IfErr result (λ e. Refuses e (unless_faulty (first_of (faults_of (table_view table.now))) (contents_of (table_view table.now)))) }
+{
+    let platforms = read_platforms(alloc, table)?;
+    let codebase = read_codebase(alloc, table)?;
+    let root = read_root(alloc, in_codebase(codebase, "root"))?;
+    let exclude = read_patterns(alloc, "codebase.exclude", in_codebase(codebase, "exclude"))?;
+    let skip = read_patterns(alloc, "codebase.skip", in_codebase(codebase, "skip"))?;
+    Ok(Analysis {
+        platforms,
+        root,
+        exclude,
+        skip,
+    })
+}
+
+/// Why a file has no table.
+fn refusal(error: &Error) -> AnalysisFault
+    ensures { (bad : BadAnalysis) → result ≡ AnalysisFault.Bad bad → (bad ≡ record { kind = NotToml; place = [] }) × ¬ IsMemory error.now }
+{
+    if error.is_memory() {
+        return AnalysisFault::NoMemory;
+    }
+    AnalysisFault::Bad(BadAnalysis {
+        kind: AnalysisKind::NotToml,
+        place: Bytes::new(),
+    })
+}
+
+/// Reads an analysis file. It answers what the file says, or its first fault, or that memory ran out. The length of the file is not
+/// looked at.
+pub fn read(alloc: Global, bytes: &[u8]) -> Result<Analysis, AnalysisFault>
+    ensures contents { IfOk result (λ a. analysis bytes.now ≡ Ok a) }
+    ensures bad { IfErr result (λ e. Refuses e (analysis bytes.now)) }
+{
+    match toml::table_from_slice(alloc, bytes) {
+        Ok(table) => read_table(alloc, &table),
+        Err(error) => Err(refusal(&error)),
+    }
 }
