@@ -1,5 +1,5 @@
 -- Platforms one after another.
-use Rattle.std.proofs.Common.{◌≡◌, ℕ, zero, suc, IsTrue, ◌<◌, ◌≤◌, Bool, true, false, List, [], ◌∷◌, ◌++◌, length, map, Option, Some, None, refl, sym, ◌∙◌, ap, arith, String, string_bytes, Less, codes, option_map, nat_lt, nat_le}
+use Rattle.std.proofs.Common.{◌≡◌, ℕ, zero, suc, IsTrue, ◌<◌, ◌≤◌, true, false, List, [], ◌∷◌, ◌++◌, length, Option, Some, None, refl, ap, arith, String, string_bytes, Less, codes, option_map, nat_lt, nat_le}
 use Rattle.std.proofs.lemmas.Bool.{false≢true, lt-ltb, le-leb, lt-leb}
 use Rattle.std.specs.String.{string_cmp}
 use Rattle.std.specs.Map.{keys_of}

@@ -1,8 +1,8 @@
 -- Texts that are cut and split at a byte.
-use Rattle.std.proofs.Common.{◌≡◌, ℕ, zero, suc, ◌<◌, ◌≤◌, ◌==◌, ◌&&◌, not, Bool, true, false, List, [], ◌∷◌, ◌++◌, length, take, refl, arith, IfSome, IfNone, Option, Some, None, cond}
+use Rattle.std.proofs.Common.{◌≡◌, ℕ, zero, suc, ◌<◌, ◌≤◌, ◌==◌, not, Bool, true, false, List, [], ◌∷◌, ◌++◌, length, take, refl, arith, IfSome, IfNone, Option, Some, None, cond}
 use Rattle.std.specs.Prelude.{slice_index}
 use Rattle.std.specs.Borrow.{Bor}
-use Rattle.std.specs.List.{list_all, slice_split, onto_first}
+use Rattle.std.specs.List.{slice_split, onto_first}
 use Rattle.std.proofs.lemmas.Bool.{not-true, and_parts}
 use Rattle.std.proofs.lemmas.Bool.Decides.{nat_tests}
 use Rattle.std.proofs.lemmas.Grind.{common_steps}

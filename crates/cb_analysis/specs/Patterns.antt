@@ -1,5 +1,5 @@
 -- Patterns of an analysis: which texts are patterns, and which paths one matches.
-use Rattle.std.specs.Prelude.{ℕ, ◌-◌, ◌==◌, ◌&&◌, ◌||◌, nat_lt, not, if◌then◌else◌, Bool, true, List, [], ◌∷◌, length, take, slice_index}
+use Rattle.std.specs.Prelude.{ℕ, ◌-◌, ◌==◌, ◌&&◌, ◌||◌, nat_lt, not, if◌then◌else◌, Bool, List, [], ◌∷◌, length, take, slice_index}
 use Rattle.std.specs.List.{list_any, list_all, slice_split}
 use Rattle.cb_paths.specs.Paths.{is_absolute}
 use Rattle.cb_analysis.specs.Fits.{fits, tails, is_empty, is_any, part_fits}

@@ -1,5 +1,5 @@
 -- How a list is walked with a pattern: what elements without a star leave of it.
-use Rattle.std.specs.Prelude.{◌≡◌, ◌++◌, ◌&&◌, MatchOption, not, if◌then◌else◌, Bool, true, false, List, [], ◌∷◌, Option, Some, None}
+use Rattle.std.specs.Prelude.{◌≡◌, ◌++◌, MatchOption, not, if◌then◌else◌, Bool, true, false, List, [], ◌∷◌, Option, Some, None}
 use Rattle.std.specs.Borrow.{Bor}
 use Rattle.std.specs.List.{list_all, list_any}
 use Rattle.cb_analysis.specs.Fits.{fits, tails}

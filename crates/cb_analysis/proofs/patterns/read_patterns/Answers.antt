@@ -1,4 +1,4 @@
-use Rattle.std.proofs.Common.{◌∙◌, ◌≤◌, ◌<◌, length, sym, map, arith}
+use Rattle.std.proofs.Common.{◌≤◌, ◌<◌, length, map}
 use Rattle.toml.specs.View.{view}
 use Rattle.cb_analysis.proofs.Lists.{list_passes, list_too_many, length_map}
 use Rattle.cb_analysis.proofs.patterns.read_patterns.Goals as goal

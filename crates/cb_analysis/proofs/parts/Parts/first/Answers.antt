@@ -1,4 +1,3 @@
-use Rattle.cb_analysis.specs.inner.Left.{left_of}
 use Rattle.cb_analysis.proofs.Splitting.{parts_cut}
 use Rattle.cb_analysis.proofs.parts.Parts.first.Goals as goal
 

@@ -1,5 +1,3 @@
-use Rattle.cb_analysis.specs.Fits.{is_empty}
-use Rattle.cb_analysis.specs.inner.Left.{left_of}
 use Rattle.cb_analysis.proofs.Splitting.{split_some}
 use Rattle.cb_analysis.proofs.parts.Parts.is_empty.Goals as goal
 

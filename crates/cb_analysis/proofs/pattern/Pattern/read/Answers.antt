@@ -1,4 +1,4 @@
-use Rattle.std.proofs.Common.{◌≡◌, ◌∙◌, Bool, true, false, Option, Some, None, if◌then◌else◌, not, sym, refl, ◌||◌, nat_lt, length}
+use Rattle.std.proofs.Common.{◌≡◌, ◌∙◌, Bool, true, false, Some, None, if◌then◌else◌, not, sym, refl, ◌||◌, nat_lt, length}
 use Rattle.std.specs.List.{list_all, list_any}
 use Rattle.cb_paths.specs.Paths.{is_absolute}
 use Rattle.cb_analysis.specs.Fits.{is_empty}
