@@ -103,11 +103,11 @@ pub without_fault : (t : Members) (root exclude skip : Option Data) (contents : 
     → answer t ≡ Ok contents
 without_fault t root exclude skip contents is_root is_exclude is_skip p c r x s platforms root' exclude' skip' =
     let none : first_of (faults_of t) ≡ None =
-      first_behind (platforms_faults t) (codebase_faults (codebase_at t)) p
-      ∙ first_next (codebase_fault (codebase_at t)) _ c
-      ∙ first_next (root_fault (at_key (codes "root") (codebase_at t))) _ (subst (λ r. root_fault r ≡ None) is_root r)
-      ∙ first_behind (list_faults (codes "codebase.exclude") (at_key (codes "exclude") (codebase_at t))) _ (subst (λ x. first_of (list_faults (codes "codebase.exclude") x) ≡ None) is_exclude x)
-      ∙ subst (λ s. first_of (list_faults (codes "codebase.skip") s) ≡ None) is_skip s in
+    first_behind (platforms_faults t) (codebase_faults (codebase_at t)) p
+    ∙ first_next (codebase_fault (codebase_at t)) _ c
+    ∙ first_next (root_fault (at_key (codes "root") (codebase_at t))) _ (subst (λ r. root_fault r ≡ None) is_root r)
+    ∙ first_behind (list_faults (codes "codebase.exclude") (at_key (codes "exclude") (codebase_at t))) _ (subst (λ x. first_of (list_faults (codes "codebase.exclude") x) ≡ None) is_exclude x)
+    ∙ subst (λ s. first_of (list_faults (codes "codebase.skip") s) ≡ None) is_skip s in
     rw none (rw (← is_root, ← is_exclude, ← is_skip, ← platforms, ← root', ← exclude', ← skip') refl)
 
 -- the crate refuses a file

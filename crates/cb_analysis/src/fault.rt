@@ -83,8 +83,8 @@ pub struct BadAnalysis {
 impl fmt::Display for BadAnalysis {
     fn fmt<W: fmt::Write>(&self, f: &mut fmt::Formatter<W>) -> fmt::Result {
         match std::str::from_utf8(self.place.as_slice()) {
-            Ok(place) => write!(f, "{place}: {}", self.kind),
-            Err(_) => write!(f, "{}", self.kind),
+            Ok(place) if !place.is_empty() => write!(f, "{place}: {}", self.kind),
+            _ => write!(f, "{}", self.kind),
         }
     }
 }

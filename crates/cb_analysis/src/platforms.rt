@@ -60,7 +60,7 @@ fn read_platform(alloc: Global, name: &[u8], value: &Value) -> Result<Platform, 
 }
 
 /// The platforms of the entries of a table, in their order, or the first fault of them.
-fn fill(alloc: Global, entries: &Table) -> Result<Vec<Platform>, AnalysisFault>
+fn read_entries(alloc: Global, entries: &Table) -> Result<Vec<Platform>, AnalysisFault>
     requires { btree_map_len entries.now ≤ 32 }
     ensures fine { IfOk result (λ _. first_of (flat_map platform_faults (entries_of (table_view entries.now))) ≡ None) }
     ensures platforms { IfOk result (λ platforms. platforms.items ≡ filter_map platform_of (entries_of (table_view entries.now))) }
@@ -93,5 +93,5 @@ pub(crate) fn read_platforms(alloc: Global, table: &Table) -> Result<Vec<Platfor
     if entries.len() > PLATFORM_LIMIT {
         return Err(bad(alloc, AnalysisKind::TooMany, "platform"));
     }
-    fill(alloc, entries)
+    read_entries(alloc, entries)
 }

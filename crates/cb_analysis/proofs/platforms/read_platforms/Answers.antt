@@ -15,15 +15,15 @@ returns-clause-fine c =
     let entries = c.in-Some-as_table.entries.now.entries in
     let few : length entries ≤ 32 = rw c.len.ensures.len at c.if-len-gt-PLATFORM_LIMIT.false in
     rw (platforms_pass (table_view c.args.table.now) (view c.in-Some.value.now) entries c.in-Some.ensures c.in-Some-as_table.ensures
-    (positive (length entries) c.if-is_empty.ensures.1) few) c.fill.ensures.fine
+    (positive (length entries) c.if-is_empty.ensures.1) few) c.read_entries.ensures.fine
 
 pub returns-clause-bad : goal.returns-clause-bad
 returns-clause-bad c =
     let entries = c.in-Some-as_table.entries.now.entries in
     let few : length entries ≤ 32 = rw c.len.ensures.len at c.if-len-gt-PLATFORM_LIMIT.false in
     rw (platforms_pass (table_view c.args.table.now) (view c.in-Some.value.now) entries c.in-Some.ensures c.in-Some-as_table.ensures
-    (positive (length entries) c.if-is_empty.ensures.1) few) c.fill.ensures.bad
+    (positive (length entries) c.if-is_empty.ensures.1) few) c.read_entries.ensures.bad
 
 pub returns-clause-platforms : goal.returns-clause-platforms
 returns-clause-platforms c =
-    rw (← platforms_in (table_view c.args.table.now) (view c.in-Some.value.now) c.in-Some-as_table.entries.now.entries c.in-Some.ensures c.in-Some-as_table.ensures) c.fill.ensures.platforms
+    rw (← platforms_in (table_view c.args.table.now) (view c.in-Some.value.now) c.in-Some-as_table.entries.now.entries c.in-Some.ensures c.in-Some-as_table.ensures) c.read_entries.ensures.platforms

@@ -1,7 +1,7 @@
 use Rattle.std.proofs.Common.{◌∙◌}
 use Rattle.cb_analysis.proofs.Fitting.{nil_behind}
 use Rattle.cb_analysis.proofs.Entries.{are_platforms}
-use Rattle.cb_analysis.proofs.platforms.fill.Goals as goal
+use Rattle.cb_analysis.proofs.platforms.read_entries.Goals as goal
 
 pub returns-clause-valid : goal.returns-clause-valid
 returns-clause-valid c =

@@ -4,7 +4,7 @@ use Rattle.toml.specs.View.{table_view, members_view}
 use Rattle.cb_analysis.specs.Tables.{entries_of}
 use Rattle.cb_analysis.specs.Faults.{first_of, platform_faults}
 use Rattle.cb_analysis.specs.Analyses.{platform_of}
-use Rattle.cb_analysis.proofs.platforms.fill.Given as goal
+use Rattle.cb_analysis.proofs.platforms.read_entries.Given as goal
 
 abbrev pub invariant-platforms : goal.invariant-platforms
 invariant-platforms l =
