@@ -227,7 +227,8 @@ fn faults_are_told(rt: HostRuntime) -> Result<(), Fail> {
     Ok(())
 }
 
-/// An analysis with so many platforms, of which the first has a bad name, and so many patterns, of which the last is bad.
+/// An analysis with so many platforms, of which the first has a bad name, and so many patterns, of which the last is
+/// bad.
 fn large(
     alloc: Global,
     platforms: usize,

@@ -17,7 +17,8 @@ use Rattle.cb_analysis.specs.declared.fault.BadAnalysis.{BadAnalysis}
 use Rattle.cb_analysis.specs.declared.fault.AnalysisFault.{AnalysisFault}
 use Rattle.cb_analysis.specs.declared.fault.AnalysisFault.TheVariants.{Bad, NoMemory}
 
--- the platforms, the root of the databases, and the patterns of sources that do not count and of files that are not loaded
+-- the platforms, the root of the databases, and the patterns of sources that do not count and of files that are not
+-- loaded
 pub record Contents : Type 0 where
   pub platforms : List Platform
   pub root : Option (List ℕ)

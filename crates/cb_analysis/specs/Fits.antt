@@ -1,4 +1,5 @@
--- Patterns against lists: the bytes of a pattern's part against those of a path's part, and a pattern's parts against a path's.
+-- Patterns against lists: the bytes of a pattern's part against those of a path's part, and a pattern's parts against
+-- a path's.
 use Rattle.std.specs.Prelude.{ℕ, ◌==◌, ◌&&◌, ◌||◌, if◌then◌else◌, Bool, true, false, List, [], ◌∷◌, bytes_eq, codes}
 use Rattle.std.specs.List.{list_any}
 
@@ -12,8 +13,8 @@ abbrev pub begins : {X : Type 0} → (X → Bool) → (List X → Bool) → List
 begins first behind [] = false
 begins first behind (x ∷ xs) = first x && behind xs
 
--- the elements of a pattern, one after another, take the front of a list, and what they leave passes a test: a star takes any number of
--- elements, none included, and any other element takes one element that is its like (own)
+-- the elements of a pattern, one after another, take the front of a list, and what they leave passes a test: a star
+-- takes any number of elements, none included, and any other element takes one element that is its like (own)
 abbrev pub fits : {P X : Type 0} → (P → Bool) → (P → X → Bool) → (List X → Bool) → List P → List X → Bool
 fits star like left [] xs = left xs
 fits star like left (p ∷ ps) xs =

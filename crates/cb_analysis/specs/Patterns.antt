@@ -34,8 +34,8 @@ is_refused byte = (byte == 33) || (byte == 91) || (byte == 92)
 unfoldable pub is_pattern : List ℕ → Bool
 is_pattern text = not (list_any is_refused text) && list_all (λ part. not (is_empty part)) (parts_of (body text))
 
--- the pattern that a text is: it is anchored where it begins with a slash or has more than one part, and means what is in a folder where it
--- ends with a slash (gitignore(5))
+-- the pattern that a text is: it is anchored where it begins with a slash or has more than one part, and means what is
+-- in a folder where it ends with a slash (gitignore(5))
 unfoldable pub pattern_of : List ℕ → Pattern
 pattern_of text = record {
   is_anchored = is_absolute text || nat_lt 1 (length (parts_of (body text)));
@@ -51,7 +51,8 @@ may_follow is_folder rest = not (is_folder && is_empty rest)
 abbrev pub matches_at : Pattern → List (List ℕ) → Bool
 matches_at pattern parts = fits is_any part_fits (may_follow pattern.is_folder) pattern.parts parts
 
--- a pattern matches a path where it takes a run of its parts, which begins at the first part if the pattern is anchored, else anywhere (own)
+-- a pattern matches a path where it takes a run of its parts, which begins at the first part if the pattern is
+-- anchored, else anywhere (own)
 unfoldable pub matches : Pattern → List ℕ → Bool
 matches pattern path =
     if pattern.is_anchored then matches_at pattern (parts_of path) else list_any (matches_at pattern) (tails (parts_of path))

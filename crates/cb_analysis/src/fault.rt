@@ -75,8 +75,8 @@ impl AnalysisKind {
 pub struct BadAnalysis {
     /// What is wrong.
     pub kind: AnalysisKind,
-    /// Where it is wrong: the key, with a dot between its parts; for a pattern with its number in the list, from 0. Names stand in it as
-    /// they are. Empty where the file is no TOML document.
+    /// Where it is wrong: the key, with a dot between its parts; for a pattern with its number in the list, from 0.
+    /// Names stand in it as they are. Empty where the file is no TOML document.
     pub place: Bytes,
 }
 

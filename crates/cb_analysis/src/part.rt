@@ -63,8 +63,8 @@ fn ends_with(segment: &[u8], text: &[u8]) -> bool
     behind_front(segment, end).is_some()
 }
 
-/// Whether what a pattern has behind a `*` fits the end of a text. Of the places for what stands between two `*` the first will do, so
-/// it takes at most the product of the two lengths.
+/// Whether what a pattern has behind a `*` fits the end of a text. Of the places for what stands between two `*` the
+/// first will do, so it takes at most the product of the two lengths.
 fn fits_behind_star(mut pattern: &[u8], mut text: &[u8]) -> bool
     ensures { result ≡ behind_star is_star is_like is_empty pattern.now text.now }
 {
@@ -81,7 +81,8 @@ fn fits_behind_star(mut pattern: &[u8], mut text: &[u8]) -> bool
     }
 }
 
-/// Whether a part of a pattern fits a part of a path: a `*` takes any bytes, a `?` any one byte, and another byte itself.
+/// Whether a part of a pattern fits a part of a path: a `*` takes any bytes, a `?` any one byte, and another byte
+/// itself.
 #[tactic(auto, unfolding(crate::specs::Fits::part_fits))]
 pub(crate) fn part_fits(pattern: &[u8], part: &[u8]) -> bool
     ensures { result ≡ part_fits pattern.now part.now }

@@ -6,7 +6,8 @@ ghost use Rattle.cb_analysis.specs.inner.Left.{left_of};
 
 use crate::cut::cut;
 
-/// The parts of a text that are left: a text in which they stand with a slash between two, or none where no part is left.
+/// The parts of a text that are left: a text in which they stand with a slash between two, or none where no part is
+/// left.
 #[derive(Clone, Copy)]
 pub(crate) struct Parts<'a> {
     text: Option<&'a [u8]>,

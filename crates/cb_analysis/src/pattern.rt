@@ -81,7 +81,8 @@ fn without_end(text: &[u8]) -> &[u8]
 
 /// The parts of a text, if none of them is empty.
 fn parts_in(alloc: Global, text: &[u8]) -> Result<Option<Texts>, NoMemory>
-    ensures { IfOk result (λ parts. parts ≡ (if list_all (λ part. not (is_empty part)) (parts_of text.now) then Some (parts_of text.now) else None)) }
+    ensures { IfOk result (λ parts. parts
+        ≡ (if list_all (λ part. not (is_empty part)) (parts_of text.now) then Some (parts_of text.now) else None)) }
 {
     let mut parts = Texts::new(alloc);
     let mut left = Parts::of(text);
@@ -105,7 +106,8 @@ fn is_anchored(text: &[u8], parts: &Texts) -> bool
 impl Pattern {
     /// The pattern that a text is. None where it holds a `!`, a `[` or a backslash, or where one of its parts is empty.
     pub(crate) fn read(alloc: Global, text: &[u8]) -> Result<Option<Pattern>, NoMemory>
-        ensures { IfOk result (λ pattern. pattern ≡ (if is_pattern text.now then Some (pattern_of text.now) else None)) }
+        ensures { IfOk result (λ pattern. pattern
+            ≡ (if is_pattern text.now then Some (pattern_of text.now) else None)) }
     {
         if has_refused(text) {
             return Ok(None);

@@ -1,5 +1,5 @@
 //! The lists of patterns of an analysis.
-ghost use Rattle.std.specs.Prelude.{◌≡◌, ◌≤◌, true, false, None, Some, map, length, IsSome, IfOk, IfErr, IfSome, IfNone, option_map};
+ghost use Rattle.std.specs.Prelude.{◌≡◌, ◌≤◌, true, false, None, Some, map, length, IfOk, IfErr, IfSome, IfNone, option_map};
 ghost use Rattle.std.specs.List.{list_all, filter_map};
 ghost use Rattle.toml.specs.Data.{as_str};
 ghost use Rattle.toml.specs.View.{view};
@@ -43,9 +43,12 @@ fn text_items(value: &Value) -> Option<&[Value]>
 fn patterns_of(alloc: Global, place: &str, texts: &[Value]) -> Result<Vec<Pattern>, AnalysisFault>
     requires all { list_all is_text (map view texts.now) ≡ true }
     requires few { length texts.now ≤ 1000 }
-    ensures fine { IfOk result (λ _. first_of (pattern_faults place.now 0 (filter_map as_str (map view texts.now))) ≡ None) }
-    ensures patterns { IfOk result (λ patterns. patterns.items ≡ map pattern_of (filter_map as_str (map view texts.now))) }
-    ensures bad { IfErr result (λ e. Tells e (first_of (pattern_faults place.now 0 (filter_map as_str (map view texts.now))))) }
+    ensures fine { IfOk result (λ _. first_of (pattern_faults place.now 0 (filter_map as_str (map view texts.now)))
+        ≡ None) }
+    ensures patterns { IfOk result (λ patterns. patterns.items
+        ≡ map pattern_of (filter_map as_str (map view texts.now))) }
+    ensures bad { IfErr result (λ e. Tells e
+        (first_of (pattern_faults place.now 0 (filter_map as_str (map view texts.now))))) }
 {
     let mut patterns = Vec::new(alloc);
     let mut left = texts;
@@ -70,9 +73,12 @@ pub(crate) fn read_patterns(
     place: &str,
     value: Option<&Value>,
 ) -> Result<Vec<Pattern>, AnalysisFault>
-    ensures fine { IfOk result (λ _. first_of (list_faults place.now (option_map (λ v. view v.now) value.entry)) ≡ None) }
-    ensures patterns { IfOk result (λ patterns. patterns.items ≡ map pattern_of (texts_in (option_map (λ v. view v.now) value.entry))) }
-    ensures bad { IfErr result (λ e. Tells e (first_of (list_faults place.now (option_map (λ v. view v.now) value.entry)))) }
+    ensures fine { IfOk result (λ _. first_of (list_faults place.now (option_map (λ v. view v.now) value.entry))
+        ≡ None) }
+    ensures patterns { IfOk result (λ patterns. patterns.items
+        ≡ map pattern_of (texts_in (option_map (λ v. view v.now) value.entry))) }
+    ensures bad { IfErr result (λ e. Tells e
+        (first_of (list_faults place.now (option_map (λ v. view v.now) value.entry)))) }
 {
     let Some(value) = value else {
         return Ok(Vec::new(alloc));

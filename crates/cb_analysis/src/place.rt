@@ -20,7 +20,8 @@ fn joined(alloc: Global, first: &[u8], second: &[u8], third: &[u8]) -> Result<By
 
 /// The fault of this kind at a place, or that there was no memory for the place.
 fn at_place(kind: AnalysisKind, place: Result<Bytes, NoMemory>) -> AnalysisFault
-    ensures { (text : List ℕ) → IfOk place (λ p. p ≡ text) → Tells result (Some (record { kind = kind; place = text })) }
+    ensures { (text : List ℕ) → IfOk place (λ p. p ≡ text)
+        → Tells result (Some (record { kind = kind; place = text })) }
 {
     match place {
         Ok(place) => AnalysisFault::Bad(BadAnalysis { kind, place }),

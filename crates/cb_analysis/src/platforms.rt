@@ -1,5 +1,5 @@
 //! The platforms of an analysis.
-ghost use Rattle.std.specs.Prelude.{◌≡◌, ◌≤◌, Some, None, map, IfOk, IfErr};
+ghost use Rattle.std.specs.Prelude.{◌≡◌, ◌≤◌, Some, None, IfOk, IfErr};
 ghost use Rattle.std.specs.List.{filter_map, flat_map};
 ghost use Rattle.std.specs.BTreeMap.{btree_map_len};
 ghost use Rattle.toml.specs.View.{view, table_view};
@@ -63,9 +63,11 @@ fn read_platform(alloc: Global, name: &[u8], value: &Value) -> Result<Platform, 
 fn read_entries(alloc: Global, entries: &Table) -> Result<Vec<Platform>, AnalysisFault>
     requires { btree_map_len entries.now ≤ 32 }
     ensures fine { IfOk result (λ _. first_of (flat_map platform_faults (entries_of (table_view entries.now))) ≡ None) }
-    ensures platforms { IfOk result (λ platforms. platforms.items ≡ filter_map platform_of (entries_of (table_view entries.now))) }
+    ensures platforms { IfOk result (λ platforms. platforms.items
+        ≡ filter_map platform_of (entries_of (table_view entries.now))) }
     ensures valid { IfOk result (λ platforms. ArePlatforms platforms.items) }
-    ensures bad { IfErr result (λ e. Tells e (first_of (flat_map platform_faults (entries_of (table_view entries.now))))) }
+    ensures bad { IfErr result (λ e. Tells e
+        (first_of (flat_map platform_faults (entries_of (table_view entries.now))))) }
 {
     let mut platforms = Vec::new(alloc);
     'platforms: for (name, value) in entries.iter() {
@@ -77,7 +79,8 @@ fn read_entries(alloc: Global, entries: &Table) -> Result<Vec<Platform>, Analysi
 /// The platforms of an analysis by the bytes of their names, or the first fault of them.
 pub(crate) fn read_platforms(alloc: Global, table: &Table) -> Result<Vec<Platform>, AnalysisFault>
     ensures fine { IfOk result (λ _. first_of (platforms_faults (table_view table.now)) ≡ None) }
-    ensures platforms { IfOk result (λ platforms. platforms.items ≡ filter_map platform_of (entries_in (platform_at (table_view table.now)))) }
+    ensures platforms { IfOk result (λ platforms. platforms.items
+        ≡ filter_map platform_of (entries_in (platform_at (table_view table.now)))) }
     ensures valid { IfOk result (λ platforms. ArePlatforms platforms.items) }
     ensures bad { IfErr result (λ e. Tells e (first_of (platforms_faults (table_view table.now)))) }
 {

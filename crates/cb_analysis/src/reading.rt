@@ -4,7 +4,7 @@ ghost use Rattle.toml.specs.Data.{get_member, as_str};
 ghost use Rattle.toml.specs.Errors.{IsMemory};
 ghost use Rattle.toml.specs.View.{view, table_view};
 ghost use Rattle.cb_analysis.specs.Tables.{codebase_at, at_key, is_table, is_text, is_absent_or};
-ghost use Rattle.cb_analysis.specs.Faults.{first_of, faults_of, codebase_faults, unless, platforms_faults, Tells};
+ghost use Rattle.cb_analysis.specs.Faults.{first_of, faults_of, unless, Tells};
 ghost use Rattle.cb_analysis.specs.Analyses.{analysis, contents_of, unless_faulty, Refuses};
 ghost use Rattle.cb_analysis.specs.declared.fault.BadAnalysis.{BadAnalysis};
 ghost use Rattle.cb_analysis.specs.declared.fault.AnalysisKind.TheVariants.{WrongType, NotToml};
@@ -31,7 +31,8 @@ pub(crate) fn member<'a>(table: &'a Table, key: &str) -> Option<&'a Value>
 
 /// What stands at a key of the table `codebase`, if it stands there.
 fn in_codebase<'a>(codebase: Option<&'a Value>, key: &str) -> Option<&'a Value>
-    ensures { option_map (λ value. view value.now) result ≡ at_key key.now (option_map (λ value. view value.now) codebase.entry) }
+    ensures { option_map (λ value. view value.now) result
+        ≡ at_key key.now (option_map (λ value. view value.now) codebase.entry) }
 {
     match codebase {
         Some(codebase) => codebase.get(key),
@@ -43,7 +44,8 @@ fn in_codebase<'a>(codebase: Option<&'a Value>, key: &str) -> Option<&'a Value>
 fn read_codebase(alloc: Global, table: &Table) -> Result<Option<&Value>, AnalysisFault>
     ensures fine { IfOk result (λ _. unless (is_absent_or is_table (codebase_at (table_view table.now))) WrongType (codes "codebase") ≡ None) }
     ensures table { IfOk result (λ value. option_map (λ v. view v.now) value ≡ codebase_at (table_view table.now)) }
-    ensures bad { IfErr result (λ e. Tells e (unless (is_absent_or is_table (codebase_at (table_view table.now))) WrongType (codes "codebase"))) }
+    ensures bad { IfErr result (λ e. Tells e
+        (unless (is_absent_or is_table (codebase_at (table_view table.now))) WrongType (codes "codebase"))) }
 {
     let Some(codebase) = member(table, "codebase") else {
         return Ok(None);
@@ -58,7 +60,8 @@ fn read_codebase(alloc: Global, table: &Table) -> Result<Option<&Value>, Analysi
 fn read_root(alloc: Global, value: Option<&Value>) -> Result<Option<Bytes>, AnalysisFault>
     ensures fine { IfOk result (λ _. unless (is_absent_or is_text (option_map (λ v. view v.now) value.entry)) WrongType (codes "codebase.root") ≡ None) }
     ensures root { IfOk result (λ root. root ≡ option_and_then as_str (option_map (λ v. view v.now) value.entry)) }
-    ensures bad { IfErr result (λ e. Tells e (unless (is_absent_or is_text (option_map (λ v. view v.now) value.entry)) WrongType (codes "codebase.root"))) }
+    ensures bad { IfErr result (λ e. Tells e
+        (unless (is_absent_or is_text (option_map (λ v. view v.now) value.entry)) WrongType (codes "codebase.root"))) }
 {
     let Some(value) = value else {
         return Ok(None);
@@ -72,8 +75,10 @@ fn read_root(alloc: Global, value: Option<&Value>) -> Result<Option<Bytes>, Anal
 
 /// What a table says, or its first fault.
 fn read_table(alloc: Global, table: &Table) -> Result<Analysis, AnalysisFault>
-    ensures contents { IfOk result (λ a. unless_faulty (first_of (faults_of (table_view table.now))) (contents_of (table_view table.now)) ≡ Ok a) }
-    ensures bad { IfErr result (λ e. Refuses e (unless_faulty (first_of (faults_of (table_view table.now))) (contents_of (table_view table.now)))) }
+    ensures contents { IfOk result (λ a.
+        unless_faulty (first_of (faults_of (table_view table.now))) (contents_of (table_view table.now)) ≡ Ok a) }
+    ensures bad { IfErr result (λ e. Refuses e
+        (unless_faulty (first_of (faults_of (table_view table.now))) (contents_of (table_view table.now)))) }
 {
     let platforms = read_platforms(alloc, table)?;
     let codebase = read_codebase(alloc, table)?;
@@ -90,7 +95,8 @@ fn read_table(alloc: Global, table: &Table) -> Result<Analysis, AnalysisFault>
 
 /// Why a file has no table.
 fn refusal(error: &Error) -> AnalysisFault
-    ensures { (bad : BadAnalysis) → result ≡ AnalysisFault.Bad bad → (bad ≡ record { kind = NotToml; place = [] }) × ¬ IsMemory error.now }
+    ensures { (bad : BadAnalysis) → result ≡ AnalysisFault.Bad bad
+        → (bad ≡ record { kind = NotToml; place = [] }) × ¬ IsMemory error.now }
 {
     if error.is_memory() {
         return AnalysisFault::NoMemory;
@@ -101,8 +107,8 @@ fn refusal(error: &Error) -> AnalysisFault
     })
 }
 
-/// Reads an analysis file. It answers what the file says, or its first fault, or that memory ran out. The length of the file is not
-/// looked at.
+/// Reads an analysis file. It answers what the file says, or its first fault, or that memory ran out. The length of
+/// the file is not looked at.
 pub fn read(alloc: Global, bytes: &[u8]) -> Result<Analysis, AnalysisFault>
     ensures contents { IfOk result (λ a. analysis bytes.now ≡ Ok a) }
     ensures bad { IfErr result (λ e. Refuses e (analysis bytes.now)) }

@@ -1,5 +1,5 @@
 //! The parts of a pattern against the parts of a path.
-ghost use Rattle.std.specs.Prelude.{◌≡◌, ◌≤◌, not, length, true, option_map};
+ghost use Rattle.std.specs.Prelude.{◌≡◌, ◌≤◌, not, length, option_map};
 ghost use Rattle.std.specs.List.{prefix_len};
 ghost use Rattle.cb_analysis.specs.Fits.{is_any, part_fits, fits};
 ghost use Rattle.cb_analysis.specs.Patterns.{may_follow};
@@ -79,8 +79,8 @@ fn may_follow(is_folder: bool, rest: Parts) -> bool
     !(is_folder && rest.is_empty())
 }
 
-/// Whether what a pattern has behind a `**` takes parts of a path. Of the places for what stands between two `**` the first will do, and
-/// behind the last one too, since a run may end anywhere.
+/// Whether what a pattern has behind a `**` takes parts of a path. Of the places for what stands between two `**` the
+/// first will do, and behind the last one too, since a run may end anywhere.
 pub(crate) fn fits_behind_any(mut pattern: &[Bytes], mut path: Parts, is_folder: bool) -> bool
     ensures { result ≡ behind_star is_any part_fits (may_follow is_folder) pattern.now (left_of path.entry) }
 {
