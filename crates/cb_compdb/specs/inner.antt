@@ -1,0 +1,2 @@
+-- Words that private clauses alone name.
+pub mod Steps
