@@ -1,2 +1,3 @@
 -- Words that private clauses alone name.
 pub mod Steps
+pub mod Items

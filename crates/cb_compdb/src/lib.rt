@@ -1,5 +1,12 @@
 //! Compilation databases: which sources a build compiles, and with which options.
 #![tactic(auto)]
 
+mod entry;
+mod fault;
+mod laws;
 mod splitter;
 mod splitting;
+
+pub use entry::{Entries, Entry};
+pub use fault::{BadDatabase, DatabaseFault};
+pub use laws::one_splitting;
