@@ -1,3 +1,4 @@
 pub mod Leading
 pub mod SplitSteps
 pub mod OneSplitting
+pub mod Items

@@ -37,7 +37,7 @@ single_read n bytes front back quote left old new e f b q gives =
     let fails = next_fails (λ b. not (b == 39)) bytes quote left (ap (λ k. drop k bytes) (sym e) ∙ sym b ∙ q) in
     let is : quote ≡ 39 = eqb-true quote 39 (not-false (quote == 39) fails) in
     let spelled : bytes ≡ (front ++ 39 ∷ []) ++ left =
-        joins n bytes front back f b ∙ ap (λ xs. front ++ xs) (q ∙ ap (λ x. x ∷ left) is) ∙ sym (append_assoc front (39 ∷ []) left)
+    joins n bytes front back f b ∙ ap (λ xs. front ++ xs) (q ∙ ap (λ x. x ∷ left) is) ∙ sym (append_assoc front (39 ∷ []) left)
     in
     let P : List ℕ → Type 0 = λ bs. Leads (39 ∷ bs) old left new in
     subst P (sym spelled) (Leads-piece (single front) left old new (passes (λ b. not (b == 39)) n bytes front e f) gives)
@@ -97,13 +97,13 @@ pub plain_read : (n : ℕ) (bytes front back : List ℕ) (b : ℕ) (behind : Lis
 plain_read n bytes front back b behind old new e f k first plain gives =
     let one : 1 + prefix_len is_plain behind ≡ suc (prefix_len is_plain behind) = omega arith in
     let m : n ≡ suc (prefix_len is_plain behind) =
-        e ∙ ap (prefix_len is_plain) first ∙ cond-true (is_plain b) (1 + prefix_len is_plain behind) 0 plain ∙ one
+    e ∙ ap (prefix_len is_plain) first ∙ cond-true (is_plain b) (1 + prefix_len is_plain behind) 0 plain ∙ one
     in
     let run : front ≡ b ∷ take (prefix_len is_plain behind) behind =
-        f ∙ ap (λ i. take i bytes) m ∙ ap (take (suc (prefix_len is_plain behind))) first
+    f ∙ ap (λ i. take i bytes) m ∙ ap (take (suc (prefix_len is_plain behind))) first
     in
     let rest : back ≡ drop (prefix_len is_plain behind) behind =
-        k ∙ ap (λ i. drop i bytes) m ∙ ap (drop (suc (prefix_len is_plain behind))) first
+    k ∙ ap (λ i. drop i bytes) m ∙ ap (drop (suc (prefix_len is_plain behind))) first
     in
     let P : List ℕ → Type 0 = λ bs. Leads bs old back new in
     let Q : List ℕ → Type 0 = λ bs. Leads (b ∷ behind) old bs new in

@@ -4,9 +4,11 @@
 mod entry;
 mod fault;
 mod laws;
+mod reading;
 mod splitter;
 mod splitting;
 
 pub use entry::{Entries, Entry};
 pub use fault::{BadDatabase, DatabaseFault};
 pub use laws::one_splitting;
+pub use reading::read;
