@@ -2,3 +2,4 @@ pub mod Leading
 pub mod SplitSteps
 pub mod OneSplitting
 pub mod Items
+pub mod OneDatabase

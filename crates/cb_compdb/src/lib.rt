@@ -10,5 +10,5 @@ mod splitting;
 
 pub use entry::{Entries, Entry};
 pub use fault::{BadDatabase, DatabaseFault};
-pub use laws::one_splitting;
+pub use laws::{one_database, one_splitting};
 pub use reading::read;
