@@ -3,3 +3,4 @@ pub mod SplitSteps
 pub mod OneSplitting
 pub mod Items
 pub mod OneDatabase
+pub mod Words

@@ -3,7 +3,10 @@
 
 mod entry;
 mod fault;
+mod form;
 mod laws;
+mod made;
+mod options;
 mod reading;
 mod splitter;
 mod splitting;
@@ -11,4 +14,5 @@ mod splitting;
 pub use entry::{Entries, Entry};
 pub use fault::{BadDatabase, DatabaseFault};
 pub use laws::{one_database, one_splitting};
+pub use made::{Made, command};
 pub use reading::read;
