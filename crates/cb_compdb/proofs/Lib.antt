@@ -4,3 +4,4 @@ pub mod OneSplitting
 pub mod Items
 pub mod OneDatabase
 pub mod Words
+pub mod Filtering
