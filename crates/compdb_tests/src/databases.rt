@@ -1,0 +1,361 @@
+//! Databases: their entries, the words of commands, and the first fault.
+use cb_compdb::{BadDatabase, DatabaseFault, Entry, one_database, one_splitting, read};
+use cb_paths::{Bytes, NoMemory};
+use std::alloc::Global;
+use std::test::Fail;
+
+/// The number of a file's fault and its entry, and 0 and the number of entries of one that is read.
+fn outcome(alloc: Global, file: &[u8]) -> Result<(u32, u32), NoMemory> {
+    match read(alloc, file) {
+        Ok(entries) => Ok((0, entries.len().min(100_000) as u32)),
+        Err(DatabaseFault::Bad(bad)) => Ok((bad.number(), place_of(bad))),
+        Err(DatabaseFault::NoMemory) => Err(NoMemory),
+    }
+}
+
+fn place_of(bad: BadDatabase) -> u32 {
+    match bad {
+        BadDatabase::NotObject(place) | BadDatabase::Field(place) | BadDatabase::OpenQuote(place) =>
+            place,
+        _ => 0,
+    }
+}
+
+#[test]
+fn the_first_fault_is_told(rt: HostRuntime) -> Result<(), Fail> {
+    one_database();
+    for (file, number, place) in [
+        // No JSON: nothing, a byte order mark, an end that lacks, a text behind the value, bytes that are no UTF-8.
+        (b"".as_slice(), 1, 0),
+        (b"\xef\xbb\xbf[]".as_slice(), 1, 0),
+        (b"[".as_slice(), 1, 0),
+        (b"[] []".as_slice(), 1, 0),
+        (b"[\"\xff\"]".as_slice(), 1, 0),
+        (b"[{\"directory\":1}".as_slice(), 1, 0),
+        // No array.
+        (b"{}".as_slice(), 2, 0),
+        (b"null".as_slice(), 2, 0),
+        (b"\"[]\"".as_slice(), 2, 0),
+        // No entry at all is no fault.
+        (b" [ ]\n".as_slice(), 0, 0),
+        // No object.
+        (b"[1]".as_slice(), 3, 0),
+        (b"[[]]".as_slice(), 3, 0),
+        (
+            b"[{\"directory\":\"/\",\"file\":\"a.c\",\"command\":\"\"},null,{}]".as_slice(),
+            3,
+            1,
+        ),
+        // Each field missing, and of another type.
+        (b"[{}]".as_slice(), 4, 0),
+        (b"[{\"file\":\"a.c\",\"command\":\"cc\"}]".as_slice(), 4, 0),
+        (
+            b"[{\"directory\":null,\"file\":\"a.c\",\"command\":\"cc\"}]".as_slice(),
+            4,
+            0,
+        ),
+        (
+            b"[{\"directory\":\"/\",\"command\":\"cc\"}]".as_slice(),
+            4,
+            0,
+        ),
+        (
+            b"[{\"directory\":\"/\",\"file\":[\"a.c\"],\"command\":\"cc\"}]".as_slice(),
+            4,
+            0,
+        ),
+        (b"[{\"directory\":\"/\",\"file\":\"a.c\"}]".as_slice(), 4, 0),
+        (
+            b"[{\"directory\":\"/\",\"file\":\"a.c\",\"command\":[\"cc\"]}]".as_slice(),
+            4,
+            0,
+        ),
+        (
+            b"[{\"directory\":\"/\",\"file\":\"a.c\",\"arguments\":\"cc\"}]".as_slice(),
+            4,
+            0,
+        ),
+        (
+            b"[{\"directory\":\"/\",\"file\":\"a.c\",\"arguments\":[\"cc\",1]}]".as_slice(),
+            4,
+            0,
+        ),
+        // Where `arguments` stands, `command` is not looked at, whatever either of them is.
+        (
+            b"[{\"directory\":\"/\",\"file\":\"a.c\",\"arguments\":null,\"command\":\"cc\"}]".as_slice(),
+            4,
+            0,
+        ),
+        (
+            b"[{\"directory\":\"/\",\"file\":\"a.c\",\"arguments\":[],\"command\":\"cc 'a\"}]".as_slice(),
+            0,
+            1,
+        ),
+        (
+            b"[{\"directory\":\"/\",\"file\":\"a.c\",\"arguments\":[\"cc 'a\"],\"command\":1}]".as_slice(),
+            0,
+            1,
+        ),
+        // A quote without an end.
+        (
+            b"[{\"directory\":\"/\",\"file\":\"a.c\",\"command\":\"cc 'a\"}]".as_slice(),
+            5,
+            0,
+        ),
+        (
+            b"[{\"directory\":\"/\",\"file\":\"a.c\",\"command\":\"cc \\\"a\"}]".as_slice(),
+            5,
+            0,
+        ),
+        (
+            b"[{\"directory\":\"/\",\"file\":\"a.c\",\"command\":\"cc \\\"a\\\\\"}]".as_slice(),
+            5,
+            0,
+        ),
+        (
+            b"[{\"directory\":\"/\",\"file\":\"a.c\",\"command\":\"cc \\\"a\\\\\\\"\"}]".as_slice(),
+            5,
+            0,
+        ),
+        // In one entry a field comes before a quote; of two entries the first one decides.
+        (
+            b"[{\"directory\":\"/\",\"command\":\"cc 'a\"}]".as_slice(),
+            4,
+            0,
+        ),
+        (
+            b"[{\"directory\":\"/\",\"file\":\"a.c\",\"command\":\"cc 'a\"},1]".as_slice(),
+            5,
+            0,
+        ),
+        (
+            b"[{\"directory\":\"/\",\"file\":\"a.c\",\"command\":\"cc 'a\"},{}]".as_slice(),
+            5,
+            0,
+        ),
+        (
+            b"[{},{\"directory\":\"/\",\"file\":\"a.c\",\"command\":\"cc 'a\"}]".as_slice(),
+            4,
+            0,
+        ),
+        (b"[{},1]".as_slice(), 4, 0),
+        (b"[1,{}]".as_slice(), 3, 0),
+        // Of a key that stands twice the last value counts, also where the first has another type.
+        (
+            b"[{\"directory\":1,\"file\":\"a.c\",\"command\":\"cc\",\"directory\":\"/\"}]".as_slice(),
+            0,
+            1,
+        ),
+        (
+            b"[{\"directory\":\"/\",\"file\":\"a.c\",\"command\":\"cc\",\"directory\":1}]".as_slice(),
+            4,
+            0,
+        ),
+        // Other keys are passed over.
+        (
+            b"[{\"directory\":\"/\",\"file\":\"a.c\",\"command\":\"cc\",\"output\":7,\"x\":{}}]".as_slice(),
+            0,
+            1,
+        ),
+    ] {
+        assert!(rt;
+            outcome(rt.alloc(), file)? == (number, place),
+            "{}",
+            file.escape_ascii()
+        );
+    }
+    Ok(())
+}
+
+/// What a file comes to that is an array of so many items, and then of an end.
+fn outcome_of_many(
+    alloc: Global,
+    count: u32,
+    item: &[u8],
+    end: &[u8],
+) -> Result<(u32, u32), NoMemory> {
+    let mut file = Vec::from_slice(alloc, b"[")?;
+    for at in 0..count {
+        if at > 0 {
+            file.push(b',')?;
+        }
+        file.extend_from_slice(item)?;
+    }
+    file.extend_from_slice(end)?;
+    outcome(alloc, file.as_slice())
+}
+
+const ITEM: &[u8] = b"{\"directory\":\"/\",\"file\":\"a.c\",\"arguments\":[]}";
+
+/// The limit is told behind the reading as JSON, and before any entry is looked at.
+#[test]
+fn entries_are_limited(rt: HostRuntime) -> Result<(), Fail> {
+    for (count, item, end, number, place) in [
+        (20_000, ITEM, b"]".as_slice(), 0, 20_000),
+        (20_001, ITEM, b"]".as_slice(), 6, 0),
+        (20_000, b"1".as_slice(), b"]".as_slice(), 3, 0),
+        (20_001, b"1".as_slice(), b"]".as_slice(), 6, 0),
+        (20_001, b"1".as_slice(), b"".as_slice(), 1, 0),
+    ] {
+        assert!(rt;
+            outcome_of_many(rt.alloc(), count, item, end)? == (number, place),
+            "{count} items, {number}"
+        );
+    }
+    Ok(())
+}
+
+#[test]
+fn faults_have_names(rt: HostRuntime) {
+    for (bad, number, name) in [
+        (BadDatabase::NotJson, 1, "NotJson"),
+        (BadDatabase::NotArray, 2, "NotArray"),
+        (BadDatabase::NotObject(7), 3, "NotObject"),
+        (BadDatabase::Field(7), 4, "Field"),
+        (BadDatabase::OpenQuote(7), 5, "OpenQuote"),
+        (BadDatabase::TooMany, 6, "TooMany"),
+    ] {
+        assert!(rt; bad.number() == number && bad.name() == name, "{name}");
+    }
+}
+
+/// The words of an entry, each in brackets.
+fn shown_words(alloc: Global, entry: &Entry) -> Result<Vec<u8>, NoMemory> {
+    let mut text = Vec::new(alloc);
+    for word in entry.words.as_slice() {
+        text.push(b'<')?;
+        text.extend_from_slice(word.as_slice())?;
+        text.push(b'>')?;
+    }
+    Ok(text)
+}
+
+/// Whether a command, as it is written in JSON, is split into these words.
+fn splits_into(alloc: Global, command: &[u8], wanted: &[u8]) -> Result<bool, NoMemory> {
+    let mut file = Vec::from_slice(
+        alloc,
+        b"[{\"directory\":\"/\",\"file\":\"a.c\",\"command\":\"",
+    )?;
+    file.extend_from_slice(command)?;
+    file.extend_from_slice(b"\"}]")?;
+    match read(alloc, file.as_slice()) {
+        Ok(entries) => match entries.get(0) {
+            Some(entry) => Ok(shown_words(alloc, entry)?.as_slice() == wanted),
+            None => Ok(false),
+        },
+        Err(DatabaseFault::Bad(_)) => Ok(false),
+        Err(DatabaseFault::NoMemory) => Err(NoMemory),
+    }
+}
+
+#[test]
+fn commands_are_split(rt: HostRuntime) -> Result<(), Fail> {
+    one_splitting();
+    for (command, words) in [
+        // Gaps: space, HT, LF and CR, and no others.
+        (b"cc -c a.c".as_slice(), b"<cc><-c><a.c>".as_slice()),
+        (
+            b"  cc \\t -c\\na.c\\r\\n".as_slice(),
+            b"<cc><-c><a.c>".as_slice(),
+        ),
+        (
+            b"a\\u000bb\\fc\\u00a0d".as_slice(),
+            b"<a\x0bb\x0cc\xc2\xa0d>".as_slice(),
+        ),
+        (b"".as_slice(), b"".as_slice()),
+        (b" \\n".as_slice(), b"".as_slice()),
+        // Quotes stand anywhere in a word, and end none.
+        (
+            b"\\\"a b\\\"c'd e'f g".as_slice(),
+            b"<a bcd ef><g>".as_slice(),
+        ),
+        (
+            b"-DA=\\\"\\\" '' \\\"\\\" b".as_slice(),
+            b"<-DA=><><><b>".as_slice(),
+        ),
+        (b"'\\\"' \\\"'\\\"".as_slice(), b"<\"><'>".as_slice()),
+        (
+            b"'a\\nb' \\\"c\\td\\\"".as_slice(),
+            b"<a\nb><c\td>".as_slice(),
+        ),
+        // A backslash gives the next byte outside quotes and inside double ones, and is itself inside single ones.
+        (
+            b"a\\\\ b \\\\' \\\\\\\" \\\\\\\\ \\\\n".as_slice(),
+            b"<a b><'><\"><\\><n>".as_slice(),
+        ),
+        (
+            b"\\\"a\\\\\\\"b\\\\\\\\c\\\\nd\\\"".as_slice(),
+            b"<a\"b\\cnd>".as_slice(),
+        ),
+        (b"'a\\\\b' '\\\\'".as_slice(), b"<a\\b><\\>".as_slice()),
+        (b"a\\\\\\nb".as_slice(), b"<a\nb>".as_slice()),
+        // A backslash at the very end is itself.
+        (b"a\\\\".as_slice(), b"<a\\>".as_slice()),
+        (b"a \\\\".as_slice(), b"<a><\\>".as_slice()),
+        (b"''\\\\".as_slice(), b"<\\>".as_slice()),
+    ] {
+        assert!(rt;
+            splits_into(rt.alloc(), command, words)?,
+            "{}",
+            command.escape_ascii()
+        );
+    }
+    Ok(())
+}
+
+/// Whether the entry at a place has these fields; none is wanted of one that is not there.
+fn has_entry(
+    alloc: Global,
+    file: &[u8],
+    place: usize,
+    wanted: Option<(&[u8], &[u8], &[u8])>,
+) -> Result<bool, NoMemory> {
+    let Ok(entries) = read(alloc, file) else {
+        return Ok(false);
+    };
+    match (entries.get(place), wanted) {
+        (Some(entry), Some((directory, file, words))) => Ok(
+            is_text(&entry.directory, directory)
+                && is_text(&entry.file, file)
+                && shown_words(alloc, entry)?.as_slice() == words,
+        ),
+        (None, None) => Ok(place >= entries.len() && place >= entries.as_slice().len()),
+        _ => Ok(false),
+    }
+}
+
+fn is_text(text: &Bytes, wanted: &[u8]) -> bool {
+    text.as_slice() == wanted
+}
+
+const TWICE: &[u8] =
+    b"[{\"file\":\"a.c\",\"directory\":\"/w\",\"arguments\":[\"cc\",\"\",\"-D\\u00e4 b\"]},{\"file\":\"a.c\",\"directory\":\"\",\"command\":\"cc -c a.c\"}]";
+
+#[test]
+fn entries_stand_in_their_order(rt: HostRuntime) -> Result<(), Fail> {
+    for (place, wanted) in [
+        (
+            0,
+            Some((
+                b"/w".as_slice(),
+                b"a.c".as_slice(),
+                b"<cc><><-D\xc3\xa4 b>".as_slice(),
+            )),
+        ),
+        (
+            1,
+            Some((
+                b"".as_slice(),
+                b"a.c".as_slice(),
+                b"<cc><-c><a.c>".as_slice(),
+            )),
+        ),
+        (2, None),
+    ] {
+        assert!(rt;
+            has_entry(rt.alloc(), TWICE, place, wanted)?,
+            "entry {place}"
+        );
+    }
+    Ok(())
+}
