@@ -3,7 +3,7 @@ use Rattle.std.proofs.Common.{◌≡◌, ◌∙◌, ◌+◌, ◌<◌, ◌≤◌,
 use Rattle.serde_json.specs.Data.{Data}
 use Rattle.serde_json.specs.Find.{get, as_array, as_object}
 use Rattle.serde_json.specs.View.{items_of}
-use Rattle.cb_compdb.specs.Databases.{list_of, items_in, text_at, texts_of, Written, arguments, command, written_by, written_in, Fields, fields_of, HasOpen, IsEntry, IsNoObject, LacksField, LacksQuote, AreEntries, StopsAt, HasEntries}
+use Rattle.cb_compdb.specs.Databases.{list_of, items_in, text_at, texts_of, Written, arguments, command, written_by, written_in, fields_of, HasOpen, IsEntry, IsNoObject, LacksField, LacksQuote, AreEntries, StopsAt, HasEntries}
 use Rattle.cb_compdb.specs.Pieces.{HasWords, HasOpenQuote}
 use Rattle.cb_compdb.specs.declared.entry.Entry.{Entry}
 use Rattle.cb_compdb.specs.declared.fault.BadDatabase.TheVariants as bad

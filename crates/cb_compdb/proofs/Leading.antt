@@ -1,11 +1,11 @@
 -- How pieces lead from one text and progress to another.
-use Rattle.std.proofs.Common.{◌≡◌, ◌∙◌, ◌+◌, ℕ, suc, cond, Bool, true, false, List, [], ◌∷◌, ◌++◌, map, take, drop, Option, Some, None, refl, sym, ap, subst, inl, inr, append_assoc, arith}
+use Rattle.std.proofs.Common.{◌≡◌, ◌∙◌, ◌+◌, ℕ, suc, cond, Bool, true, false, List, [], ◌∷◌, ◌++◌, map, take, Option, Some, None, refl, sym, ap, subst, inl, inr, append_assoc, arith}
 use Rattle.std.specs.List.{list_all, flat_map, prefix_len}
-use Rattle.std.proofs.lemmas.List.{take-append-drop, map-append}
+use Rattle.std.proofs.lemmas.List.{map-append}
 use Rattle.std.proofs.lemmas.List.Folds.{list_all-append}
 use Rattle.std.proofs.lemmas.Bool.{and_parts, and_from}
 use Rattle.std.proofs.lemmas.Grind.{flat_map-append}
-use Rattle.cb_compdb.specs.Pieces.{Inner, itself, escaped, Piece, plain, double, Reads, Stands, spelling, inner_spelling, inner_byte, is_inner, is_inner_byte, is_plain, given, joined, IsOpenDouble}
+use Rattle.cb_compdb.specs.Pieces.{itself, escaped, Piece, plain, double, Reads, Stands, spelling, inner_spelling, inner_byte, is_inner, is_inner_byte, is_plain, given, joined, IsOpenDouble}
 use Rattle.cb_compdb.specs.inner.Steps.{Progress, Leads, LeadsInside, words_behind}
 
 -- one byte more at the front, by its test

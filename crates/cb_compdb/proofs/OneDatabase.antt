@@ -1,8 +1,7 @@
 -- A file has one list of entries, or one first fault.
-use Rattle.std.proofs.Common.{◌≡◌, ◌∙◌, ◌<◌, ◌≤◌, ℕ, zero, suc, List, [], ◌∷◌, length, Option, Some, None, refl, sym, ap, subst, inl, inr, arith}
+use Rattle.std.proofs.Common.{◌≡◌, ◌∙◌, ◌<◌, ℕ, zero, suc, List, [], ◌∷◌, length, Option, Some, None, refl, sym, ap, subst, inl, inr, arith}
 use Rattle.std.specs.Prelude.{◌⊎◌, unwrap_or, is_some}
 use Rattle.serde_json.specs.Data.{Data, null, boolean, number, string, array, object}
-use Rattle.serde_json.specs.Find.{as_object}
 use Rattle.cb_compdb.specs.Databases.{items_in, Written, arguments, command, Fields, fields_of, IsWritten, HasOpen, IsEntry, IsNoObject, LacksField, LacksQuote, AreEntries, StopsAt, HasItems, HasEntries, Lacks, IsJson, IsDatabase, HasFault}
 use Rattle.cb_compdb.specs.declared.entry.Entry.{Entry}
 use Rattle.cb_compdb.specs.declared.fault.BadDatabase.{BadDatabase}

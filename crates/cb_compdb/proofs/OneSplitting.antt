@@ -2,7 +2,7 @@
 use Rattle.std.proofs.Common.{◌≡◌, ◌∙◌, ◌==◌, ◌&&◌, ℕ, Bool, true, false, not, List, [], ◌∷◌, ◌++◌, map, Option, Some, None, if◌then◌else◌, refl, sym, ap, subst, append_assoc, inl, inr}
 use Rattle.std.specs.Prelude.{◌⊎◌, option_map, unwrap_or}
 use Rattle.std.specs.List.{list_all, flat_map}
-use Rattle.std.proofs.lemmas.Bool.{and_parts, not-false, false_from_ne_true}
+use Rattle.std.proofs.lemmas.Bool.{and_parts}
 use Rattle.cb_compdb.specs.Pieces.{Inner, itself, escaped, Piece, gap, plain, escape, lone, single, double, Reads, Stands, spelling, inner_spelling, is_inner, is_gap, is_plain, given, joined, HasWords, HasOpenQuote, IsOpen, IsOpenSingle, IsOpenDouble}
 
 -- what stands before the first single quote, and behind it

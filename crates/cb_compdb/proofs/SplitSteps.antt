@@ -2,8 +2,8 @@
 use Rattle.std.proofs.Common.{◌≡◌, ◌∙◌, ◌+◌, ◌==◌, ℕ, suc, cond, not, Bool, true, false, List, [], ◌∷◌, ◌++◌, map, length, take, drop, Option, Some, None, refl, sym, ap, subst, append_assoc, arith}
 use Rattle.std.specs.List.{list_all, prefix_len}
 use Rattle.std.proofs.lemmas.List.{take-append-drop, append-nil, nil_from_length}
-use Rattle.std.proofs.lemmas.Bool.{false≢true, eqb-true, not-false, cond-true}
-use Rattle.cb_compdb.specs.Pieces.{Piece, gap, escape, lone, single, given, joined, is_gap, is_inner_byte, is_plain, Reads, HasWords, HasOpenQuote, IsOpen, IsOpenSingle}
+use Rattle.std.proofs.lemmas.Bool.{eqb-true, not-false, cond-true}
+use Rattle.cb_compdb.specs.Pieces.{gap, escape, lone, single, given, joined, is_gap, is_inner_byte, is_plain, Reads, HasWords, HasOpenQuote, IsOpen, IsOpenSingle}
 use Rattle.cb_compdb.specs.inner.Steps.{Progress, start, Leads, LeadsInside, words_behind}
 use Rattle.cb_compdb.proofs.Leading.{list_all-prefix, Leads-piece, Leads-plain, Leads-double, LeadsInside-run, LeadsInside-escaped}
 

@@ -2,7 +2,7 @@
 use Rattle.std.proofs.Common.{◌≡◌, ◌≢◌, ◌∙◌, ◌==◌, ℕ, Bool, true, false, List, [], ◌∷◌, ◌++◌, length, drop, cond, Option, Some, None, Bor, MatchOption, option_map, refl, sym, ap}
 use Rattle.std.proofs.lemmas.Bool.{eqb-true, eq-eqb}
 use Rattle.std.proofs.lemmas.List.{nil_from_length}
-use Rattle.cb_compdb.specs.Options.{WordForm, with_text, takes_next, skips_next, other, behind, form_of, Effect, last_effects, effects_by, effects_of}
+use Rattle.cb_compdb.specs.Options.{with_text, takes_next, skips_next, other, behind, form_of, last_effects, effects_by, effects_of}
 use Rattle.cb_compdb.specs.declared.form.OptionKind.{OptionKind}
 
 -- what stands behind a front

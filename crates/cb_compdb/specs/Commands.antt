@@ -1,5 +1,5 @@
 -- The command that an entry makes.
-use Rattle.std.specs.Prelude.{ℕ, if◌then◌else◌, Bool, true, false, List, [], ◌∷◌, ◌++◌, drop, Option, Some, None}
+use Rattle.std.specs.Prelude.{ℕ, if◌then◌else◌, Bool, true, false, List, ◌++◌, drop, Option, Some, None}
 use Rattle.std.specs.List.{filter_map}
 use Rattle.cb_paths.specs.Paths.{folder_at, file_at}
 use Rattle.cb_paths.specs.Languages.{language_of}
@@ -50,8 +50,8 @@ folders_of kind work effects = filter_map (folder_for kind work) effects
 unfoldable pub texts_of : OptionKind → List Effect → List (List ℕ)
 texts_of kind effects = filter_map (text_for kind) effects
 
--- the command of these effects for a source: headers in angle brackets are looked for in the folders of `-I` before those of `-isystem` (GCC's
--- manual, but for a folder that both name)
+-- the command of these effects for a source: headers in angle brackets are looked for in the folders of `-I` before
+-- those of `-isystem` (GCC's manual, but for a folder that both name)
 unfoldable pub command_of : List Effect → List ℕ → Language → List ℕ → List ℕ → Command
 command_of effects main language work root = record {
   main = main;

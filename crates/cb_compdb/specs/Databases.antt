@@ -1,5 +1,5 @@
--- What a compilation database says: its entries, or its first fault, over the JSON value that the kit's crate `serde_json` reads (Clang's
--- documents, "JSON Compilation Database Format Specification").
+-- What a compilation database says: its entries, or its first fault, over the JSON value that the kit's crate
+-- `serde_json` reads (Clang's manual, "JSON Compilation Database Format Specification").
 use Rattle.std.specs.Prelude.{◌≡◌, ◌⊎◌, ℕ, zero, suc, ◌<◌, ◌≤◌, List, [], ◌∷◌, length, codes, Option, Some, None, option_map, option_and_then, IsSome, IsUtf8}
 use Rattle.serde_json.specs.Data.{Data, Items, no_items, item}
 use Rattle.serde_json.specs.Find.{get, as_str, as_array, as_object}
@@ -27,30 +27,31 @@ abbrev pub texts_of : List Data → Option (List (List ℕ))
 texts_of [] = Some []
 texts_of (d ∷ ds) = option_and_then (λ text. option_map (λ texts. text ∷ texts) (texts_of ds)) (as_str d)
 
--- how the words of an entry are written: one by one, or as a command (Clang's documents)
+-- how the words of an entry are written: one by one, or as a command (Clang's manual)
 pub data Written : Type 0 where
   arguments : List (List ℕ) → Written
   command : List ℕ → Written
 
--- where `arguments` stands, whatever its value, `command` is not looked at (Clang's documents, and own)
+-- where `arguments` stands, whatever its value, `command` is not looked at (Clang's manual, and own)
 abbrev pub written_by : Option Data → Option (List ℕ) → Option Written
 written_by (Some d) text = option_map arguments (option_and_then texts_of (items_in d))
 written_by None text = option_map command text
 
--- the words of an entry as they are written (Clang's documents)
+-- the words of an entry as they are written (Clang's manual)
 abbrev pub written_in : Data → Option Written
 written_in d = written_by (get (codes "arguments") d) (text_at (codes "command") d)
 
--- the fields of an entry (Clang's documents)
+-- the fields of an entry (Clang's manual)
 pub record Fields : Type 0 where
   pub directory : List ℕ
   pub file : List ℕ
   pub written : Written
 
--- the fields of an entry, where each stands there with its type (Clang's documents)
+-- the fields of an entry, where each stands there with its type (Clang's manual)
 unfoldable pub fields_of : Data → Option Fields
 fields_of d =
-    option_and_then (λ directory. option_and_then (λ file. option_map (λ written. record { directory = directory; file = file; written = written })
+    option_and_then (λ directory. option_and_then (λ file. option_map
+    (λ written. record { directory = directory; file = file; written = written })
     (written_in d)) (text_at (codes "file") d)) (text_at (codes "directory") d)
 
 -- the words that are written so (own)
@@ -63,7 +64,7 @@ abbrev pub HasOpen : Written → Type 0
 HasOpen (arguments texts) = ⊥
 HasOpen (command text) = HasOpenQuote text
 
--- an item is an entry (Clang's documents)
+-- an item is an entry (Clang's manual)
 abbrev pub IsEntry : Data → Entry → Type 0
 IsEntry d entry =
     (fields : Fields) × (fields_of d ≡ Some fields) × (entry.directory ≡ fields.directory) × (entry.file ≡ fields.file)
@@ -98,15 +99,16 @@ StopsAt (d ∷ ds) (suc place) P = (entry : Entry) × IsEntry d entry × StopsAt
 abbrev pub HasItems : Data → List Data → Type 0
 HasItems d items = (items_in d ≡ Some items) × (length items ≤ 20000)
 
--- the entries of a JSON value (Clang's documents)
+-- the entries of a JSON value (Clang's manual)
 abbrev pub HasEntries : Data → List Entry → Type 0
 HasEntries d entries = (items : List Data) × HasItems d items × AreEntries items entries
 
--- it stops at this item
+-- the items before this place are entries, and the fact holds of the item at it (own)
 abbrev pub Stops : Data → ℕ → (Data → Type 0) → Type 0
 Stops d place P = (items : List Data) × HasItems d items × StopsAt items place P
 
--- the first fault of a JSON value: it is no array, it has too many items, or the first item that is no entry has this fault (own)
+-- the first fault of a JSON value: it is no array, it has too many items, or the first item that is no entry has this
+-- fault (own)
 abbrev pub Lacks : Data → BadDatabase → Type 0
 Lacks d NotJson = ⊥
 Lacks d NotArray = items_in d ≡ None
@@ -115,11 +117,12 @@ Lacks d (NotObject place) = Stops d place IsNoObject
 Lacks d (Field place) = Stops d place LacksField
 Lacks d (OpenQuote place) = Stops d place LacksQuote
 
--- the JSON value of a file, in UTF-8, as the crate reads it: of a key that stands twice in an object the last value counts (RFC 8259)
+-- the JSON value of a file, in UTF-8, as the crate reads it: of a key that stands twice in an object the last value
+-- counts (RFC 8259)
 abbrev pub IsJson : List ℕ → Data → Type 0
 IsJson bytes d = IsUtf8 bytes × (read bytes ≡ Some d)
 
--- a file is a database with these entries (Clang's documents)
+-- a file is a database with these entries (Clang's manual)
 abbrev pub IsDatabase : List ℕ → List Entry → Type 0
 IsDatabase bytes entries = (d : Data) × IsJson bytes d × HasEntries d entries
 

@@ -1,12 +1,12 @@
--- What the words of a compiler do, as far as preprocessing depends on them (GCC's manual, "Options Controlling the Preprocessor" and "Options
--- for Directory Search").
+-- What the words of a compiler do, as far as preprocessing depends on them (GCC's manual, "Options Controlling the
+-- Preprocessor" and "Options for Directory Search").
 use Rattle.std.specs.Prelude.{ℕ, ◌==◌, ◌||◌, if◌then◌else◌, Bool, List, [], ◌∷◌, bytes_eq, codes, Option, Some, None}
 use Rattle.std.specs.List.{list_any}
 use Rattle.cb_compdb.specs.declared.form.OptionKind.{OptionKind}
 use Rattle.cb_compdb.specs.declared.form.OptionKind.TheVariants.{Define, Undefine, Folder, QuoteFolder, SystemFolder, ForcedFile}
 
--- what a word is: an option with its text, an option whose text is the next word, an option whose next word is passed over too, or anything
--- else, which is passed over (own)
+-- what a word is: an option with its text, an option whose text is the next word, an option whose next word is passed
+-- over too, or anything else, which is passed over (own)
 pub data WordForm : Type 0 where
   with_text : OptionKind → List ℕ → WordForm
   takes_next : OptionKind → WordForm
@@ -28,7 +28,8 @@ joined_form kind (Some (b ∷ bs)) otherwise = with_text kind (b ∷ bs)
 -- the options that a name of a file, a language, a target or a folder follows, which is not looked at (GCC's manual)
 unfoldable pub is_naming : List ℕ → Bool
 is_naming word =
-    list_any (λ name. bytes_eq word name) (codes "-o" ∷ codes "-x" ∷ codes "-MF" ∷ codes "-MT" ∷ codes "-MQ" ∷ codes "-idirafter" ∷ [])
+    list_any (λ name. bytes_eq word name)
+    (codes "-o" ∷ codes "-x" ∷ codes "-MF" ∷ codes "-MT" ∷ codes "-MQ" ∷ codes "-idirafter" ∷ [])
 
 -- the options that hand the next word on to another program (GCC's, Clang's and NVIDIA's manuals)
 unfoldable pub is_handing : List ℕ → Bool
@@ -39,7 +40,8 @@ is_handing word =
 -- what a word is that is an option as a whole (GCC's manual)
 abbrev pub whole_form : List ℕ → WordForm
 whole_form word =
-    if bytes_eq word (codes "-include") then takes_next ForcedFile else (if is_naming word || is_handing word then skips_next else other)
+    if bytes_eq word (codes "-include") then takes_next ForcedFile
+    else (if is_naming word || is_handing word then skips_next else other)
 
 -- what a word is (GCC's manual, and own)
 unfoldable pub form_of : List ℕ → WordForm

@@ -1,5 +1,5 @@
--- How the text of a command is split into words: it is the spelling of pieces, one behind the other (own, after POSIX.1-2017, "Shell Command
--- Language", 2.2).
+-- How the text of a command is split into words: it is the spelling of pieces, one behind the other (own, after
+-- POSIX.1-2017, "Shell Command Language", 2.2).
 use Rattle.std.specs.Prelude.{◌≡◌, ◌⊎◌, ℕ, ◌==◌, ◌&&◌, ◌||◌, not, Bool, true, List, [], ◌∷◌, ◌++◌, map, Option, Some, None}
 use Rattle.std.specs.List.{list_all, flat_map}
 
@@ -8,8 +8,8 @@ pub data Inner : Type 0 where
   itself : ℕ → Inner
   escaped : ℕ → Inner
 
--- a piece of a command: a gap between words, a byte of a word, a byte behind a backslash, a backslash at the very end, and what stands between
--- quotes (own)
+-- a piece of a command: a gap between words, a byte of a word, a byte behind a backslash, a backslash at the very end,
+-- and what stands between quotes (own)
 pub data Piece : Type 0 where
   gap : ℕ → Piece
   plain : ℕ → Piece

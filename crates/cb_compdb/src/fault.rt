@@ -3,8 +3,9 @@ use cb_paths::NoMemory;
 use std::alloc::AllocFailed;
 use thiserror::Error;
 
-/// Why a file is no compilation database. The first of this order decides: `NotJson`, `NotArray`, `TooMany`, and then the first entry with a
-/// fault, in which `NotObject` comes before `Field` and that before `OpenQuote`. Entries are numbered from 0.
+/// Why a file is no compilation database. The first of this order decides: `NotJson`, `NotArray`, `TooMany`, and then
+/// the first entry with a fault, in which `NotObject` comes before `Field` and that before `OpenQuote`. Entries are
+/// numbered from 0.
 #[derive(Clone, Copy, Debug, PartialEq, Eq, Error)]
 pub enum BadDatabase {
     /// The file is no JSON.
@@ -16,7 +17,8 @@ pub enum BadDatabase {
     /// The entry is no object.
     #[error("entry {0} is no object")]
     NotObject(u32),
-    /// The entry lacks `directory`, `file`, or `arguments` and `command`, or has one that is not of its type: a text, or an array of texts.
+    /// The entry lacks `directory`, `file`, or `arguments` and `command`, or has one that is not of its type: a text,
+    /// or an array of texts.
     #[error("entry {0} lacks a field, or has one of another type")]
     Field(u32),
     /// A quote in the `command` of the entry has no end.

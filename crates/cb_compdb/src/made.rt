@@ -63,7 +63,8 @@ fn add_folder(
     work: &Dir,
     effect: &Effect,
 ) -> Result<(), NoMemory>
-    ensures { OnOk result (folders.new ≡ folders.old ++ folders_of kind work.now ((effect.now.kind, effect.now.text.now) ∷ [])) }
+    ensures { OnOk result
+        (folders.new ≡ folders.old ++ folders_of kind work.now ((effect.now.kind, effect.now.text.now) ∷ [])) }
 {
     if !same_kind(kind, effect.kind) {
         return Ok(());
@@ -132,7 +133,9 @@ fn quote_folders(alloc: Global, work: &Dir, words: &[Bytes]) -> Result<Dirs, NoM
 
 /// The folders in which all headers are looked for.
 fn angle_folders(alloc: Global, work: &Dir, words: &[Bytes]) -> Result<Dirs, NoMemory>
-    ensures { IfOk result (λ folders. folders ≡ folders_of kind.Folder work.now (effects_of words.now) ++ folders_of kind.SystemFolder work.now (effects_of words.now)) }
+    ensures { IfOk result
+        (λ folders. folders ≡ folders_of kind.Folder work.now (effects_of words.now)
+        ++ folders_of kind.SystemFolder work.now (effects_of words.now)) }
 {
     let mut folders = Dirs::new(alloc);
     add_folders(alloc, &mut folders, OptionKind::Folder, work, words)?;
@@ -182,9 +185,10 @@ fn command_of(
     })
 }
 
-/// What an entry makes, where `root` is the path that the top has in the database: `Outside` exactly where the directory, read from the root, is
-/// no folder, or the file, read from the directory, is no path below the root; else `Unsupported` exactly where the file is in no language that
-/// is preprocessed; else the command that its words give. It answers that or that memory ran out.
+/// What an entry makes, where `root` is the path that the top has in the database: `Outside` exactly where the
+/// directory, read from the root, is no folder, or the file, read from the directory, is no path below the root; else
+/// `Unsupported` exactly where the file is in no language that is preprocessed; else the command that its words give.
+/// It answers that or that memory ran out.
 #[tactic(auto, unfolding(crate::specs::Commands::made_of))]
 pub fn command(alloc: Global, entry: &Entry, root: &Dir) -> Result<Made, NoMemory>
     ensures { IfOk result (λ made. made ≡ made_of entry.now root.now) }

@@ -24,7 +24,8 @@ pub(crate) fn behind_first(words: &[Bytes]) -> &[Bytes]
 
 /// The first effect of words, and the words behind it; none where they have no effect.
 pub(crate) fn next_effect(words: &[Bytes]) -> Option<(Effect<'_>, &[Bytes])>
-    ensures effect { MatchOption result (effects_of words.now ≡ []) (λ p. effects_of words.now ≡ (p.0.kind, p.0.text.now) ∷ effects_of p.1.now) }
+    ensures effect { MatchOption result (effects_of words.now ≡ [])
+        (λ p. effects_of words.now ≡ (p.0.kind, p.0.text.now) ∷ effects_of p.1.now) }
     ensures shorter { IfSome result (λ p. length p.1.now < length words.now) }
 {
     let mut left = words;

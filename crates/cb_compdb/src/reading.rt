@@ -135,7 +135,8 @@ fn entries_of(alloc: Global, values: &[Value]) -> Result<Entries, DatabaseFault>
 
 /// The entries of an array, or its first fault.
 fn entries_in(alloc: Global, values: &[Value]) -> Result<Entries, DatabaseFault>
-    ensures entries { IfOk result (λ entries. (d : Data) → items_in d ≡ Some (map view values.now) → HasEntries d entries) }
+    ensures entries { IfOk result
+        (λ entries. (d : Data) → items_in d ≡ Some (map view values.now) → HasEntries d entries) }
     ensures fault { IfErr result (λ fault. (d : Data) → items_in d ≡ Some (map view values.now) → TellsValue fault d) }
 {
     if values.len() > ENTRY_LIMIT {
@@ -167,9 +168,9 @@ fn refusal(error: &Error) -> DatabaseFault
     }
 }
 
-/// Reads a compilation database: a JSON array of at most 20,000 objects, each with the texts `directory` and `file`, and with `arguments`, an
-/// array of texts, or else `command`, a text that is split into words. It answers the entries in their order, or the first fault of the file,
-/// or that memory ran out.
+/// Reads a compilation database: a JSON array of at most 20,000 objects, each with the texts `directory` and `file`,
+/// and with `arguments`, an array of texts, or else `command`, a text that is split into words. It answers the entries
+/// in their order, or the first fault of the file, or that memory ran out.
 pub fn read(alloc: Global, bytes: &[u8]) -> Result<Entries, DatabaseFault>
     ensures entries { IfOk result (IsDatabase bytes.now) }
     ensures fault { IfErr result (λ fault. Tells fault bytes.now) }

@@ -37,7 +37,9 @@ impl Splitter {
 
     /// Adds bytes to the word that has begun, or begins one.
     pub(crate) fn add(&mut self, bytes: &[u8]) -> Result<(), NoMemory>
-        ensures { OnOk result ((gives : List (Option (List ℕ))) → words_behind self.old (Some bytes.now ∷ gives) ≡ words_behind self.new gives) }
+        ensures { OnOk result
+            ((gives : List (Option (List ℕ)))
+            → words_behind self.old (Some bytes.now ∷ gives) ≡ words_behind self.new gives) }
     {
         match &mut self.word {
             Some(word) => word.extend_from_slice(bytes)?,
@@ -48,7 +50,8 @@ impl Splitter {
 
     /// Ends the word that has begun, if one has.
     pub(crate) fn end(&mut self) -> Result<(), NoMemory>
-        ensures ends { OnOk result ((gives : List (Option (List ℕ))) → words_behind self.old (None ∷ gives) ≡ words_behind self.new gives) }
+        ensures ends { OnOk result
+            ((gives : List (Option (List ℕ))) → words_behind self.old (None ∷ gives) ≡ words_behind self.new gives) }
         ensures none { OnOk result (self.new.word ≡ None) }
     {
         match self.word.take() {

@@ -52,9 +52,12 @@ fn single_len(bytes: &[u8]) -> usize
     bytes.iter().take_while(|byte| **byte != b'\'').count()
 }
 
-/// Reads a piece in single quotes, behind the first of them, and answers what is left behind it; none where it has no end.
+/// Reads a piece in single quotes, behind the first of them, and answers what is left behind it; none where it has no
+/// end.
 fn single<'a>(splitter: &mut Splitter, bytes: &'a [u8]) -> Result<Option<&'a [u8]>, NoMemory>
-    ensures leads { IfOk result (λ left. MatchOption left (IsOpenSingle (39 ∷ bytes.now)) (λ left. Leads (39 ∷ bytes.now) splitter.old left.now splitter.new)) }
+    ensures leads { IfOk result
+        (λ left. MatchOption left (IsOpenSingle (39 ∷ bytes.now))
+        (λ left. Leads (39 ∷ bytes.now) splitter.old left.now splitter.new)) }
     ensures shorter { IfOk result (λ left. IfSome left (λ left. length left.now < length bytes.now)) }
 {
     let (inside, behind) = bytes.split_at(single_len(bytes));
@@ -67,9 +70,12 @@ fn single<'a>(splitter: &mut Splitter, bytes: &'a [u8]) -> Result<Option<&'a [u8
     }
 }
 
-/// Reads the byte behind a backslash between double quotes, and answers what is left behind it; none where there is none.
+/// Reads the byte behind a backslash between double quotes, and answers what is left behind it; none where there is
+/// none.
 fn escaped<'a>(splitter: &mut Splitter, bytes: &'a [u8]) -> Result<Option<&'a [u8]>, NoMemory>
-    ensures leads { IfOk result (λ left. MatchOption left (bytes.now ≡ []) (λ left. LeadsInside (92 ∷ bytes.now) splitter.old left.now splitter.new)) }
+    ensures leads { IfOk result
+        (λ left. MatchOption left (bytes.now ≡ [])
+        (λ left. LeadsInside (92 ∷ bytes.now) splitter.old left.now splitter.new)) }
     ensures shorter { IfOk result (λ left. IfSome left (λ left. length left.now < length bytes.now)) }
 {
     match bytes.split_first() {
@@ -81,7 +87,8 @@ fn escaped<'a>(splitter: &mut Splitter, bytes: &'a [u8]) -> Result<Option<&'a [u
     }
 }
 
-/// Reads bytes between double quotes, at least one, and answers what is left behind them; none where a backslash is the last byte.
+/// Reads bytes between double quotes, at least one, and answers what is left behind them; none where a backslash is the
+/// last byte.
 fn inner<'a>(
     splitter: &mut Splitter,
     bytes: &'a [u8],
@@ -90,7 +97,9 @@ fn inner<'a>(
 ) -> Result<Option<&'a [u8]>, NoMemory>
     requires front { bytes.now ≡ first ∷ behind.now }
     requires inside { (first == 34) ≡ false }
-    ensures leads { IfOk result (λ left. MatchOption left (bytes.now ≡ 92 ∷ []) (λ left. LeadsInside bytes.now splitter.old left.now splitter.new)) }
+    ensures leads { IfOk result
+        (λ left. MatchOption left (bytes.now ≡ 92 ∷ [])
+        (λ left. LeadsInside bytes.now splitter.old left.now splitter.new)) }
     ensures shorter { IfOk result (λ left. IfSome left (λ left. length left.now < length bytes.now)) }
 {
     if first == b'\\' {
@@ -101,9 +110,12 @@ fn inner<'a>(
     Ok(Some(left))
 }
 
-/// Reads a piece in double quotes, behind the first of them, and answers what is left behind it; none where it has no end.
+/// Reads a piece in double quotes, behind the first of them, and answers what is left behind it; none where it has no
+/// end.
 fn double<'a>(splitter: &mut Splitter, bytes: &'a [u8]) -> Result<Option<&'a [u8]>, NoMemory>
-    ensures leads { IfOk result (λ left. MatchOption left (IsOpenDouble (34 ∷ bytes.now)) (λ left. Leads (34 ∷ bytes.now) splitter.old left.now splitter.new)) }
+    ensures leads { IfOk result
+        (λ left. MatchOption left (IsOpenDouble (34 ∷ bytes.now))
+        (λ left. Leads (34 ∷ bytes.now) splitter.old left.now splitter.new)) }
     ensures shorter { IfOk result (λ left. IfSome left (λ left. length left.now < length bytes.now)) }
 {
     splitter.add(&[])?;
@@ -120,7 +132,8 @@ fn double<'a>(splitter: &mut Splitter, bytes: &'a [u8]) -> Result<Option<&'a [u8
     Ok(None)
 }
 
-/// Reads the byte behind a backslash outside quotes, or the backslash where it is the last byte, and answers what is left behind it.
+/// Reads the byte behind a backslash outside quotes, or the backslash where it is the last byte, and answers what is
+/// left behind it.
 fn escape<'a>(splitter: &mut Splitter, bytes: &'a [u8]) -> Result<&'a [u8], NoMemory>
     ensures leads { IfOk result (λ left. Leads (92 ∷ bytes.now) splitter.old left.now splitter.new) }
     ensures shorter { IfOk result (λ left. length left.now < length bytes.now + 1) }
@@ -154,8 +167,8 @@ fn plain<'a>(
     Ok(left)
 }
 
-/// Reads what stands at the front: a gap, a piece in quotes, a byte behind a backslash, or all bytes that stand for themselves. It answers what
-/// is left behind it; none where a quote has no end.
+/// Reads what stands at the front: a gap, a piece in quotes, a byte behind a backslash, or all bytes that stand for
+/// themselves. It answers what is left behind it; none where a quote has no end.
 fn front<'a>(
     splitter: &mut Splitter,
     bytes: &'a [u8],
@@ -163,7 +176,8 @@ fn front<'a>(
     behind: &'a [u8],
 ) -> Result<Option<&'a [u8]>, NoMemory>
     requires { bytes.now ≡ first ∷ behind.now }
-    ensures leads { IfOk result (λ left. MatchOption left (IsOpen bytes.now) (λ left. Leads bytes.now splitter.old left.now splitter.new)) }
+    ensures leads { IfOk result
+        (λ left. MatchOption left (IsOpen bytes.now) (λ left. Leads bytes.now splitter.old left.now splitter.new)) }
     ensures shorter { IfOk result (λ left. IfSome left (λ left. length left.now < length bytes.now)) }
 {
     if is_gap(first) {

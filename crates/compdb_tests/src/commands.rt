@@ -89,7 +89,8 @@ pub(crate) fn make(
     Ok(text.as_slice() == wanted)
 }
 
-/// Whether words, as they are written in a command in JSON, make this for `/w/a.c`, with `/w` as the root and `/w/b` as the directory.
+/// Whether words, as they are written in a command in JSON, make this for `/w/a.c`, with `/w` as the root and `/w/b` as
+/// the directory.
 fn give(alloc: Global, words: &[u8], wanted: &[u8]) -> Result<bool, NoMemory> {
     let mut file = Vec::from_slice(
         alloc,

@@ -81,16 +81,64 @@ const BEAR: &[u8] = br#"[
 "#;
 
 /// What the projects of CMake compile, line by line.
-const CMAKE_MADE: &[u8] =
-    b"main src/main.cpp\nin C++\ndefine GPU=1\ndefine NAME=\"a b\"\nwork /home/u/heat/build\nangle /home/u/heat/inc\nangle /opt/x/include\nroot /home/u/heat\nmain src/grid.c\nin C\ndefine GPU=1\ndefine NAME=\"a b\"\nwork /home/u/heat/build\nangle /home/u/heat/inc\nangle /opt/x/include\nroot /home/u/heat\n";
+const CMAKE_MADE: &[u8] = br#"main src/main.cpp
+in C++
+define GPU=1
+define NAME="a b"
+work /home/u/heat/build
+angle /home/u/heat/inc
+angle /opt/x/include
+root /home/u/heat
+main src/grid.c
+in C
+define GPU=1
+define NAME="a b"
+work /home/u/heat/build
+angle /home/u/heat/inc
+angle /opt/x/include
+root /home/u/heat
+"#;
 
 /// What that of Meson compiles.
-const MESON_MADE: &[u8] =
-    b"main main.cpp\nin C++\ndefine _FILE_OFFSET_BITS=64\ndefine NAME=\"a b\"\nwork /home/u/heat/build\nangle /home/u/heat/build/heat.p\nangle /home/u/heat/build\nangle /home/u/heat\nangle /home/u/heat/inc\nroot /home/u/heat\nmain grid.c\nin C\ndefine _FILE_OFFSET_BITS=64\ndefine NAME=\"a b\"\ndefine GPU=1\nundef HOST\nwork /home/u/heat/build\nangle /home/u/heat/build/heat.p\nangle /home/u/heat/build\nangle /home/u/heat\nangle /home/u/heat/inc\nroot /home/u/heat\n";
+const MESON_MADE: &[u8] = br#"main main.cpp
+in C++
+define _FILE_OFFSET_BITS=64
+define NAME="a b"
+work /home/u/heat/build
+angle /home/u/heat/build/heat.p
+angle /home/u/heat/build
+angle /home/u/heat
+angle /home/u/heat/inc
+root /home/u/heat
+main grid.c
+in C
+define _FILE_OFFSET_BITS=64
+define NAME="a b"
+define GPU=1
+undef HOST
+work /home/u/heat/build
+angle /home/u/heat/build/heat.p
+angle /home/u/heat/build
+angle /home/u/heat
+angle /home/u/heat/inc
+root /home/u/heat
+"#;
 
 /// What was compiled under Bear.
-const BEAR_MADE: &[u8] =
-    b"main grid.c\nin C\ndefine GPU\ndefine NAME=\"a b\"\nwork /home/u/heat\nangle /home/u/heat/inc\nforced pre.h\nroot /home/u/heat\nmain main.cpp\nin C++\nwork /home/u/heat\nangle /opt/x/include\nroot /home/u/heat\n";
+const BEAR_MADE: &[u8] = br#"main grid.c
+in C
+define GPU
+define NAME="a b"
+work /home/u/heat
+angle /home/u/heat/inc
+forced pre.h
+root /home/u/heat
+main main.cpp
+in C++
+work /home/u/heat
+angle /opt/x/include
+root /home/u/heat
+"#;
 
 #[test]
 fn databases_of_build_systems_are_read(rt: HostRuntime) -> Result<(), Fail> {

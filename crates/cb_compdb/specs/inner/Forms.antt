@@ -1,5 +1,4 @@
 -- What private clauses say of words.
-use Rattle.std.specs.Prelude.{ℕ, List}
 use Rattle.cb_compdb.specs.Options.{WordForm, with_text, takes_next, skips_next, other}
 use Rattle.cb_compdb.specs.declared.form.Form.{Form}
 use Rattle.cb_compdb.specs.declared.form.Form.TheVariants.{With, Takes, Skips, Passed}

@@ -1,5 +1,5 @@
 -- What private clauses say of items.
-use Rattle.std.specs.Prelude.{◌≡◌, ℕ, List, Option, Some, None}
+use Rattle.std.specs.Prelude.{◌≡◌, ℕ, List, Some, None}
 use Rattle.serde_json.specs.Data.{Data}
 use Rattle.cb_compdb.specs.Databases.{IsNoObject, LacksField, LacksQuote, StopsAt, Lacks, Written, IsWritten, HasOpen, written_in}
 use Rattle.cb_compdb.specs.declared.fault.BadDatabase.{BadDatabase}

@@ -26,4 +26,5 @@ Leads bytes old left new =
 abbrev pub LeadsInside : List ℕ → Progress → List ℕ → Progress → Type 0
 LeadsInside bytes old left new =
     (inners : List Inner) × (list_all is_inner inners ≡ true) × (bytes ≡ flat_map inner_spelling inners ++ left)
-    × ((gives : List (Option (List ℕ))) → words_behind old (Some (map inner_byte inners) ∷ gives) ≡ words_behind new gives)
+    × ((gives : List (Option (List ℕ)))
+    → words_behind old (Some (map inner_byte inners) ∷ gives) ≡ words_behind new gives)

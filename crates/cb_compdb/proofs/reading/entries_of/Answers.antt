@@ -1,7 +1,6 @@
 use Rattle.std.proofs.Common.{◌≡◌, true, rules}
 use Rattle.std.specs.Result.{is_ok}
 use Rattle.serde_json.specs.View.{view}
-use Rattle.cb_compdb.specs.Databases.{AreEntries}
 use Rattle.cb_compdb.proofs.Items.{entries_more, fails_here}
 use Rattle.cb_compdb.proofs.reading.entries_of.Goals as goal
 

@@ -1,5 +1,5 @@
 use Rattle.serde_json.specs.View.{view}
-use Rattle.cb_compdb.proofs.Items.{arguments_read, arguments_lack}
+use Rattle.cb_compdb.proofs.Items.{arguments_read}
 use Rattle.cb_compdb.proofs.reading.words_of.Goals as goal
 
 pub returns-in-Some-2-clause-words : goal.returns-in-Some-2-clause-words
