@@ -1,0 +1,32 @@
+-- How the sets of an arena lie in its nodes.
+use Rattle.std.specs.Prelude.{ℕ, ◌+◌, ◌*◌, ◌≤◌, Bool, true, false, List, [], ◌∷◌, ◌++◌, length, map}
+use Rattle.cb_paste.specs.declared.hides.Cell.{Cell}
+use Rattle.cb_paste.specs.Sets.{set_at}
+
+-- the place 0, where a node has it (own)
+abbrev pub zero_at : Bool → List ℕ
+zero_at true = 0 ∷ []
+zero_at false = []
+
+-- the set of a node over those of an arena (own)
+abbrev pub set_of : List (List ℕ) → Cell → List ℕ
+set_of sets c =
+    zero_at c.here ++ (map (λ k. 2 * k + 1) (set_at sets c.odd) ++ map (λ k. 2 * k + 2) (set_at sets c.even))
+
+-- the sets of nodes behind those of an arena (own)
+abbrev pub sets_from : List (List ℕ) → List Cell → List (List ℕ)
+sets_from sets [] = sets
+sets_from sets (c ∷ cs) = sets_from (sets ++ set_of sets c ∷ []) cs
+
+-- the sets of nodes (own)
+abbrev pub sets_of : List Cell → List (List ℕ)
+sets_of cs = sets_from [] cs
+
+-- each of the nodes, the first of which has this number less one, stands only over nodes before it (own)
+abbrev pub AreCellsFrom : ℕ → List Cell → Type 0
+AreCellsFrom count [] = Unit {0}
+AreCellsFrom count (c ∷ cs) = (c.odd ≤ count) × (c.even ≤ count) × AreCellsFrom (count + 1) cs
+
+-- each of the nodes stands only over nodes before it (own)
+abbrev pub AreCells : List Cell → Type 0
+AreCells cs = AreCellsFrom 0 cs

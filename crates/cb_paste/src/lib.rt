@@ -1,0 +1,18 @@
+//! What a macro call puts in: `#`, `##` with placemarkers, white space and hide sets.
+#![tactic(auto)]
+
+mod argument;
+mod fault;
+mod hides;
+mod part;
+mod site;
+mod substitution;
+mod work_token;
+
+pub use argument::Argument;
+pub use fault::PasteFault;
+pub use hides::Hides;
+pub use part::{Part, Shape};
+pub use site::Site;
+pub use substitution::substitute;
+pub use work_token::WorkToken;
