@@ -1,7 +1,8 @@
 -- How the sets of an arena lie in its nodes.
-use Rattle.std.specs.Prelude.{ℕ, ◌+◌, ◌*◌, ◌≤◌, Bool, true, false, List, [], ◌∷◌, ◌++◌, length, map}
+use Rattle.std.specs.Prelude.{ℕ, ◌+◌, ◌*◌, Bool, true, false, suc, List, [], ◌∷◌, ◌++◌, map}
 use Rattle.cb_paste.specs.declared.hides.Cell.{Cell}
 use Rattle.cb_paste.specs.Sets.{set_at}
+use Rattle.cb_paste.specs.inner.Nodes.{IsOver}
 
 -- the place 0, where a node has it (own)
 abbrev pub zero_at : Bool → List ℕ
@@ -22,11 +23,11 @@ sets_from sets (c ∷ cs) = sets_from (sets ++ set_of sets c ∷ []) cs
 abbrev pub sets_of : List Cell → List (List ℕ)
 sets_of cs = sets_from [] cs
 
--- each of the nodes, the first of which has this number less one, stands only over nodes before it (own)
+-- each of the nodes, the first of which stands behind so many, stands over sets before it (own)
 abbrev pub AreCellsFrom : ℕ → List Cell → Type 0
 AreCellsFrom count [] = Unit {0}
-AreCellsFrom count (c ∷ cs) = (c.odd ≤ count) × (c.even ≤ count) × AreCellsFrom (count + 1) cs
+AreCellsFrom count (c ∷ cs) = IsOver count c × AreCellsFrom (suc count) cs
 
--- each of the nodes stands only over nodes before it (own)
+-- each of the nodes stands over sets before it (own)
 abbrev pub AreCells : List Cell → Type 0
 AreCells cs = AreCellsFrom 0 cs

@@ -1,0 +1,3 @@
+pub mod Arenas
+pub mod Nodes
+pub mod Sides
