@@ -1,3 +1,8 @@
 pub mod Arenas
 pub mod Nodes
 pub mod Sides
+pub mod Standing
+pub mod Spelling
+pub mod Counts
+pub mod Copies
+pub mod Stacks

@@ -1,3 +1,6 @@
 -- What private clauses alone cite.
 pub mod Nodes
 pub mod Cells
+pub mod Slots
+pub mod Glued
+pub mod Given

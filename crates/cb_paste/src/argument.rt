@@ -1,4 +1,8 @@
 //! Arguments of calls.
+ghost use Rattle.std.specs.Prelude.{◌≡◌, ℕ, List, map};
+ghost use Rattle.cb_paste.specs.Shades.{seen, AreIn};
+ghost use Rattle.cb_paste.specs.Puts.{seen_argument, given_at, AreArgumentsIn};
+
 use crate::work_token::WorkToken;
 
 /// An argument of a call.
@@ -8,4 +12,26 @@ pub struct Argument {
     pub raw: Vec<WorkToken>,
     /// The argument after its own expansion, which every other use of its parameter takes.
     pub expanded: Vec<WorkToken>,
+}
+
+/// The argument of a parameter as written; empty where there is none.
+pub(crate) fn raw_of(arguments: &[Argument], i: usize) -> &[WorkToken]
+    ensures tokens { (sets : List (List ℕ)) → map (seen sets) result.now ≡ (given_at (map (seen_argument sets) arguments.now) i).raw }
+    ensures within { (count : ℕ) → AreArgumentsIn count arguments.now → AreIn count result.now }
+{
+    match arguments.get(i) {
+        None => &[],
+        Some(argument) => argument.raw.as_slice(),
+    }
+}
+
+/// The argument of a parameter after its own expansion; empty where there is none.
+pub(crate) fn expanded_of(arguments: &[Argument], i: usize) -> &[WorkToken]
+    ensures tokens { (sets : List (List ℕ)) → map (seen sets) result.now ≡ (given_at (map (seen_argument sets) arguments.now) i).expanded }
+    ensures within { (count : ℕ) → AreArgumentsIn count arguments.now → AreIn count result.now }
+{
+    match arguments.get(i) {
+        None => &[],
+        Some(argument) => argument.expanded.as_slice(),
+    }
 }

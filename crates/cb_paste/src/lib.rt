@@ -4,8 +4,13 @@
 mod argument;
 mod fault;
 mod hides;
+mod joining;
 mod part;
+mod placing;
+mod putting;
+mod quoting;
 mod site;
+mod slots;
 mod substitution;
 mod work_token;
 

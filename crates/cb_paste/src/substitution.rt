@@ -8,6 +8,8 @@ use crate::argument::Argument;
 use crate::fault::PasteFault;
 use crate::hides::Hides;
 use crate::part::Part;
+use crate::placing::{push_slots, space_first};
+use crate::putting::put_all;
 use crate::site::Site;
 use crate::work_token::WorkToken;
 use std::alloc::Global;
@@ -36,5 +38,12 @@ pub fn substitute(
     ensures within { OnOk result (AreIn (length arena.new) stack.new.items) }
     ensures kept { Extends arena.old arena.new }
 {
-    Err(PasteFault::NoMemory)
+    let slots = put_all(alloc, arena, parts, arguments, site.room)?;
+    let count = slots.tokens();
+    push_slots(arena, slots, site.hides, stack)?;
+    if count == 0 {
+        return Ok(0);
+    }
+    space_first(stack, site.spaced)?;
+    Ok(count)
 }
