@@ -1,0 +1,4 @@
+pub mod Signs
+pub mod Definitions
+pub mod Parts
+pub mod Maps
