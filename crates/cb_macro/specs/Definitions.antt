@@ -1,5 +1,6 @@
 -- What the tokens after define define (6.10.3).
-use Rattle.std.specs.Prelude.{ℕ, ◌&&◌, ◌||◌, ◌++◌, Bool, true, false, not, if◌then◌else◌, List, [], ◌∷◌, Option, Some, None, option_map, option_and_then, position, is_some, codes}
+use Rattle.std.specs.Prelude.{ℕ, ◌&&◌, ◌||◌, ◌++◌, Bool, true, false, not, if◌then◌else◌, List, [], ◌∷◌, Option, Some, None, option_map, option_and_then, position, is_some, codes, length, slice_get, ◌-◌}
+use Rattle.std.specs.Option.{option_map_or}
 use Rattle.std.specs.List.{list_any, before_first, after_first}
 use Rattle.std.specs.Str.{bytes_eq}
 use Rattle.cb_tokens.specs.Kinds.{is_identifier_kind}
@@ -63,14 +64,11 @@ hashes_name_parameters names (t ∷ ts) = (not (is_hash t) || begins_with_parame
 
 -- ## stands first (6.10.3.3 paragraph 1)
 unfoldable pub begins_with_paste : List Token → Bool
-begins_with_paste [] = false
-begins_with_paste (t ∷ ts) = is_paste t
+begins_with_paste ts = option_map_or is_paste (slice_get ts 0) false
 
 -- ## stands last (6.10.3.3 paragraph 1)
 unfoldable pub ends_with_paste : List Token → Bool
-ends_with_paste [] = false
-ends_with_paste (t ∷ []) = is_paste t
-ends_with_paste (t ∷ u ∷ ts) = ends_with_paste (u ∷ ts)
+ends_with_paste ts = option_map_or is_paste (slice_get ts (length ts - 1)) false
 
 -- the replacement list keeps the constraints: no ## at an end; in a function-like macro a parameter behind each #; no
 -- __VA_ARGS__ without ... (6.10.3.3 paragraph 1, 6.10.3.2 paragraph 1, 6.10.3 paragraph 5)

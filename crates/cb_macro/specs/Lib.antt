@@ -2,3 +2,4 @@ pub mod Signs
 pub mod Definitions
 pub mod Parts
 pub mod Maps
+pub mod inner

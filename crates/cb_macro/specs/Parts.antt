@@ -4,17 +4,11 @@ use Rattle.cb_tokens.specs.declared.token.Token.{Token}
 use Rattle.cb_macro.specs.declared.part.Part.{Part}
 use Rattle.cb_macro.specs.declared.part.Shape.{Shape}
 use Rattle.cb_macro.specs.declared.part.Shape.TheVariants.{Fixed, Parameter, Quoted}
+use Rattle.cb_macro.specs.declared.item.Item.{Item}
 use Rattle.cb_macro.specs.declared.item.Before.{Before}
 use Rattle.cb_macro.specs.declared.item.Before.TheVariants.{Nothing, Operand, Paste}
 use Rattle.cb_macro.specs.Signs.{is_hash, is_paste}
 use Rattle.cb_macro.specs.Definitions.{Definition, all_parameters, parameter_of}
-
--- an item of a replacement list: a token, or # with its parameter; whether white space stands before it, and whether it
--- is ## (6.10.3.2 paragraph 2, 6.10.3.3 paragraph 3)
-pub record Item : Type 0 where
-  pub shape : Shape
-  pub spaced : Bool
-  pub pastes : Bool
 
 -- a parameter, or else the token itself (6.10.3.1 paragraph 1)
 abbrev pub token_shape : Token → Option ℕ → Shape
@@ -29,17 +23,17 @@ token_item names t = record { shape = token_shape t (parameter_of names t); spac
 abbrev pub quoted_item : Token → ℕ → Item
 quoted_item hash i = record { shape = Quoted i; spaced = hash.spaced; pastes = false }
 
--- the parameter that # turns into a string where these two tokens stand (6.10.3.2 paragraph 1)
-abbrev pub quoted_at : Definition → Token → Token → Option ℕ
-quoted_at d t u = if d.is_function && is_hash t then parameter_of (all_parameters d) u else None
+-- the parameter that # turns into a string, where these two tokens stand in a function-like macro (6.10.3.2 paragraph 1)
+abbrev pub quoted_at : Bool → List (List ℕ) → Token → Token → Option ℕ
+quoted_at is_function names t u = if is_function && is_hash t then parameter_of names u else None
 
 -- the items of a replacement list: in a function-like macro each # takes the parameter behind it (6.10.3.2 paragraph 2)
-unfoldable pub items : Definition → List Token → List Item
-items d [] = []
-items d (t ∷ []) = token_item (all_parameters d) t ∷ []
-items d (t ∷ u ∷ ts) = elim (quoted_at d t u) [
-    Some i ↦ quoted_item t i ∷ items d ts
-  | None ↦ token_item (all_parameters d) t ∷ items d (u ∷ ts)
+unfoldable pub items : Bool → List (List ℕ) → List Token → List Item
+items is_function names [] = []
+items is_function names (t ∷ []) = token_item names t ∷ []
+items is_function names (t ∷ u ∷ ts) = elim (quoted_at is_function names t u) [
+    Some i ↦ quoted_item t i ∷ items is_function names ts
+  | None ↦ token_item names t ∷ items is_function names (u ∷ ts)
   ]
 
 -- the item as a part, which ## joins to the part before it or not (6.10.3.3 paragraph 3)
@@ -56,7 +50,7 @@ glues Paste (i ∷ more) = part_of true i ∷ glues Operand more
 
 -- the parts of a definition's replacement list (6.10.3.2 paragraph 2, 6.10.3.3 paragraph 3)
 unfoldable pub parts : Definition → List Part
-parts d = glues Nothing (items d d.replacement)
+parts d = glues Nothing (items d.is_function (all_parameters d) d.replacement)
 
 -- ## joins the first part to what stands before it (6.10.3.3 paragraph 3)
 abbrev pub next_glued : List Part → Bool
