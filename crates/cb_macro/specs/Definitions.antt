@@ -1,7 +1,7 @@
 -- What the tokens after define define (6.10.3).
-use Rattle.std.specs.Prelude.{ℕ, ◌&&◌, ◌||◌, ◌++◌, Bool, true, false, not, if◌then◌else◌, List, [], ◌∷◌, Option, Some, None, option_map, option_and_then, position, is_some, codes, length, slice_get, ◌-◌}
+use Rattle.std.specs.Prelude.{ℕ, ◌&&◌, ◌||◌, ◌++◌, Bool, true, false, not, if◌then◌else◌, List, [], ◌∷◌, Option, Some, None, option_map, option_and_then, position, is_some, codes, length, slice_get, ◌+◌, ◌-◌, take, drop}
 use Rattle.std.specs.Option.{option_map_or}
-use Rattle.std.specs.List.{list_any, before_first, after_first}
+use Rattle.std.specs.List.{list_any}
 use Rattle.std.specs.Str.{bytes_eq}
 use Rattle.cb_tokens.specs.Kinds.{is_identifier_kind}
 use Rattle.cb_tokens.specs.declared.token.Token.{Token}
@@ -103,9 +103,7 @@ is_called (t ∷ ts) = is_sign (codes "(") t && not t.spaced
 -- (6.10.3 paragraph 10)
 unfoldable pub function_body : List Token → Option Definition
 function_body ts =
-    if list_any (is_sign (codes ")")) ts
-    then option_and_then (function_like (after_first (is_sign (codes ")")) ts)) (parameters_of (before_first (is_sign (codes ")")) ts))
-    else None
+    option_and_then (λ n. option_and_then (function_like (drop (n + 1) ts)) (parameters_of (take n ts))) (position (is_sign (codes ")")) ts)
 
 -- what stands behind the name of an object-like macro: the replacement list (6.10.3 paragraph 9)
 unfoldable pub object_body : List Token → Option Definition

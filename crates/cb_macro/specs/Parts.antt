@@ -4,6 +4,7 @@ use Rattle.cb_tokens.specs.declared.token.Token.{Token}
 use Rattle.cb_macro.specs.declared.part.Part.{Part}
 use Rattle.cb_macro.specs.declared.part.Shape.{Shape}
 use Rattle.cb_macro.specs.declared.part.Shape.TheVariants.{Fixed, Parameter, Quoted}
+use Rattle.cb_macro.specs.declared.uses.Use.{Use}
 use Rattle.cb_macro.specs.declared.item.Item.{Item}
 use Rattle.cb_macro.specs.declared.item.Before.{Before}
 use Rattle.cb_macro.specs.declared.item.Before.TheVariants.{Nothing, Operand, Paste}
@@ -78,3 +79,7 @@ is_shown i (p ∷ ps) = (is_parameter i p.shape && not (p.glued || next_glued ps
 unfoldable pub is_raw : ℕ → List Part → Bool
 is_raw i [] = false
 is_raw i (p ∷ ps) = is_quoted i p.shape || (is_parameter i p.shape && (p.glued || next_glued ps)) || is_raw i ps
+
+-- how the parameter in this place is used (6.10.3.1 paragraph 1)
+unfoldable pub use_of : ℕ → List Part → Use
+use_of i ps = record { is_shown = is_shown i ps; is_raw = is_raw i ps }

@@ -1,12 +1,19 @@
 //! Definitions of macros, and the map of macros.
 #![tactic(auto)]
 
+mod body;
+mod define;
 mod fault;
 mod item;
 mod names;
 mod parameters;
 mod part;
+mod replacement;
+mod same;
 mod signs;
+mod uses;
 
+pub use body::Macro;
+pub use define::{Defined, read_define};
 pub use fault::DefineFault;
 pub use part::{Part, Shape};

@@ -1,5 +1,5 @@
 //! The names of parameters, with their places.
-ghost use Rattle.std.specs.Prelude.{◌≡◌, [], ◌∷◌, ◌++◌, not, position, Ok, true, IfOk};
+ghost use Rattle.std.specs.Prelude.{◌≡◌, [], ◌∷◌, ◌++◌, not, position, Ok, true, length, IfOk};
 ghost use Rattle.std.specs.List.{list_any};
 ghost use Rattle.std.specs.Str.{bytes_eq};
 
@@ -40,6 +40,13 @@ impl Names {
         let name = Vec::from_slice(alloc, name)?;
         let (_, added) = self.set.insert_full(name)?;
         Ok(added)
+    }
+
+    /// The number of names.
+    pub(crate) fn len(&self) -> usize
+        ensures { result ≡ length self.now }
+    {
+        self.set.len()
     }
 
     /// Whether a name stands among them.
