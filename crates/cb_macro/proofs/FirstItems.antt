@@ -2,14 +2,15 @@
 use Rattle.std.proofs.Common.{◌≡◌, ◌<◌, ◌≤◌, ◌+◌, ℕ, Bool, true, false, not, ◌&&◌, cond, List, [], ◌∷◌, ◌++◌, length, drop, take, get_or, subst, ◌||◌, Option, Some, None, option_map, refl, sym, ap, ◌∙◌, append_assoc, append-nil, arith}
 use Rattle.std.specs.List.{list_any}
 use Rattle.std.specs.Str.{bytes_eq}
-use Rattle.std.proofs.lemmas.List.{take_more, drop_all, take_rest, drop-drop, take-append-drop}
+use Rattle.std.proofs.lemmas.List.{drop_more, take_more, drop_all, take_rest, drop-drop, take-append-drop}
 use Rattle.std.proofs.lemmas.List.Folds.{list_any-append}
 use Rattle.std.proofs.lemmas.Slice.Eq.{bytes_eq-Decides}
 use Rattle.cb_tokens.specs.declared.token.Token.{Token}
 use Rattle.cb_macro.specs.declared.item.Before.TheVariants.{Nothing}
 use Rattle.cb_macro.specs.declared.item.Before.{Before}
 use Rattle.cb_macro.specs.declared.part.Part.{Part}
-use Rattle.cb_macro.specs.Definitions.{Parameters, with_name, are_distinct, parameter_of, some_parameters}
+use Rattle.cb_macro.specs.Definitions.{hashes_name_parameters, begins_with_parameter, Parameters, with_name, are_distinct, parameter_of, some_parameters}
+use Rattle.cb_macro.specs.Signs.{is_hash}
 use Rattle.cb_macro.specs.Parts.{items, glues, token_item, quoted_item, quoted_at}
 use Rattle.cb_macro.specs.inner.Reading.{quoted_front, with_names}
 
@@ -141,3 +142,14 @@ not_false false h = cc
 pub held_more : (names : List (List ℕ)) (i : ℕ) (d : List ℕ) (all new : List (List ℕ)) (name : List ℕ)
     → i < length names → all ≡ take i names → name ≡ get_or names i d → new ≡ all ++ name ∷ [] → new ≡ take (i + 1) names
 held_more names i d all new name h held is added = added ∙ rw (held, is) (sym (take_more names i d h))
+
+-- whether parameters stand behind the hashes of tokens from a place on
+pub hashes_more : (names : List (List ℕ)) (ts : List Token) (at : ℕ) (d : Token) → at < length ts
+    → hashes_name_parameters names (drop at ts)
+    ≡ ((not (is_hash (get_or ts at d)) || begins_with_parameter names (drop (at + 1) ts)) && hashes_name_parameters names (drop (at + 1) ts))
+unfolding hashes_name_parameters
+hashes_more names ts at d h = rw (drop_more ts at d h)
+
+pub hashes_end : (names : List (List ℕ)) (ts : List Token) (at : ℕ) → length ts ≤ at → hashes_name_parameters names (drop at ts) ≡ true
+unfolding hashes_name_parameters
+hashes_end names ts at h = rw (drop_all at ts h)

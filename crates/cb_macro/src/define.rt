@@ -1,5 +1,5 @@
 //! From the tokens after `define` to a macro.
-ghost use Rattle.std.specs.Prelude.{◌≡◌, None, Some, IfOk, IfErr};
+ghost use Rattle.std.specs.Prelude.{◌≡◌, ◌<◌, None, Some, IfOk, IfErr, IfSome, position, codes, length};
 ghost use Rattle.cb_tokens.specs.declared.token.Token.{Token};
 ghost use Rattle.cb_macro.specs.Signs.{is_sign};
 ghost use Rattle.cb_macro.specs.Definitions.{defines, body_of, object_body, function_body, function_like, checked, all_parameters, without_front_space};
@@ -73,13 +73,21 @@ fn macro_with(
     checked_macro(alloc, true, parameters, &names, tokens)
 }
 
+/// The place of the first `)`, from 0.
+fn place_of_close(tokens: &[Token]) -> Option<usize>
+    ensures place { result ≡ position (is_sign (codes ")")) tokens.now }
+    ensures within { IfSome result (λ n. n < length tokens.now) }
+{
+    tokens.iter().position(|token| reads(token, b")"))
+}
+
 /// The function-like macro of what stands behind its `(`.
 #[tactic(auto, unfolding(crate::specs::Definitions::function_body))]
 fn function_macro(alloc: Global, tokens: &[Token]) -> Result<Macro, DefineFault>
     ensures read { IfOk result (λ m. function_body tokens.now ≡ Some m) }
     ensures bad { IfErr result (λ fault. OnBad fault (function_body tokens.now ≡ None)) }
 {
-    let Some(close) = tokens.iter().position(|token| reads(token, b")")) else {
+    let Some(close) = place_of_close(tokens) else {
         return Err(DefineFault::Bad);
     };
     let parameters = read_parameters(alloc, &tokens[..close])?;

@@ -1,5 +1,5 @@
 //! Replacement lists: whether they keep the constraints, and copies of them.
-ghost use Rattle.std.specs.Prelude.{◌≡◌, ◌||◌, IfOk};
+ghost use Rattle.std.specs.Prelude.{◌≡◌, ◌||◌, ◌++◌, IfOk, OnOk};
 ghost use Rattle.std.specs.List.{list_any};
 ghost use Rattle.cb_macro.specs.Signs.{is_named, rest_name};
 ghost use Rattle.cb_tokens.specs.declared.token.Token.{Token};
@@ -66,17 +66,32 @@ pub(crate) fn keeps_constraints(is_function: bool, parameters: &Parameters, name
         && (parameters.is_variadic || !has_rest_name(tokens))
 }
 
+/// Puts copies of tokens behind others.
+fn push_copies(alloc: Global, copies: &mut Vec<Token>, tokens: &[Token]) -> Result<(), NoMemory>
+    ensures { OnOk result (copies.new.items ≡ copies.old.items ++ tokens.now) }
+{
+    for token in tokens {
+        copies.push(token.copy(alloc)?)?;
+    }
+    Ok(())
+}
+
 /// A copy of a replacement list, without white space before its first token.
 #[tactic(auto, unfolding(crate::specs::Definitions::without_front_space))]
 pub(crate) fn copy_replacement(alloc: Global, tokens: &[Token]) -> Result<Vec<Token>, NoMemory>
     ensures { IfOk result (λ copies. copies.items ≡ without_front_space tokens.now) }
 {
-    let mut copies = Vec::with_capacity(alloc, tokens.len())?;
-    for token in tokens {
-        copies.push(token.copy(alloc)?)?;
+    let mut copies = Vec::new(alloc);
+    if tokens.is_empty() {
+        return Ok(copies);
     }
-    if let Some(first) = copies.first_mut() {
-        first.spaced = false;
-    }
+    let first = &tokens[0];
+    let text = first.text.copy(alloc)?;
+    copies.push(Token {
+        kind: first.kind,
+        spaced: false,
+        text,
+    })?;
+    push_copies(alloc, &mut copies, &tokens[1..])?;
     Ok(copies)
 }

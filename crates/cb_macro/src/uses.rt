@@ -1,5 +1,10 @@
 //! How the parameters of a macro are used.
-ghost use Rattle.std.specs.Prelude.{◌≡◌, ◌+◌, ◌<◌, [], length, drop, IfOk};
+ghost use Rattle.std.specs.Prelude.{◌≡◌, ℕ, ◌==◌, ◌||◌, ◌+◌, ◌<◌, [], length, drop, IfOk, if◌then◌else◌};
+ghost use Rattle.std.specs.List.{slice_index_or};
+ghost use Rattle.cb_macro.specs.declared.part.Part.{Part};
+ghost use Rattle.cb_macro.specs.declared.uses.Use.{Use};
+ghost use Rattle.cb_macro.specs.Parts.{next_glued};
+ghost use Rattle.cb_macro.specs.inner.Uses.{used};
 ghost use Rattle.cb_macro.specs.inner.Kept.{AreUsesOf};
 
 use crate::part::{Part, Shape};
@@ -21,7 +26,7 @@ fn unused(alloc: Global, count: usize) -> Result<Vec<Use>, NoMemory>
     ensures count { IfOk result (λ uses. length uses.items ≡ count) }
 {
     let mut uses = Vec::new(alloc);
-    for _at in 0..count {
+    'uses: while uses.len() < count {
         uses.push(Use {
             is_shown: false,
             is_raw: false,
@@ -31,16 +36,35 @@ fn unused(alloc: Global, count: usize) -> Result<Vec<Use>, NoMemory>
 }
 
 /// Notes that a parameter stands beside `#` or `##`, or elsewhere.
-fn note_use(uses: &mut [Use], place: usize, is_raw: bool) {
+fn note_use(uses: &mut [Use], place: usize, is_raw: bool)
+    ensures { (i : ℕ) → (other : Use) → i < length uses.old → slice_index_or uses.new i other ≡ (if i == place then used is_raw (slice_index_or uses.old i other) else slice_index_or uses.old i other) }
+{
     if place >= uses.len() {
         return;
     }
-    let used = &mut uses[place];
     if is_raw {
-        used.is_raw = true;
+        uses[place].is_raw = true;
     } else {
-        used.is_shown = true;
+        uses[place].is_shown = true;
     }
+}
+
+/// Whether `##` joins the first part to what stands before it.
+fn glued_first(parts: &[Part]) -> bool
+    ensures { result ≡ next_glued parts.now }
+{
+    match parts {
+        [] => false,
+        [first, ..] => first.glued,
+    }
+}
+
+/// Whether a part stands beside `##`.
+fn stands_beside(parts: &[Part], at: usize) -> bool
+    requires { at < length parts.now }
+    ensures { (other : Part) → result ≡ ((slice_index_or parts.now at other).glued || next_glued (drop (at + 1) parts.now)) }
+{
+    parts[at].glued || glued_first(&parts[at + 1..])
 }
 
 /// Notes the use that a part makes, where those behind it are noted.
@@ -49,10 +73,9 @@ fn note_part(uses: &mut [Use], parts: &[Part], at: usize)
     ensures { AreUsesOf uses.old (drop (at + 1) parts.now) → AreUsesOf uses.new (drop at parts.now) }
 {
     let part = &parts[at];
-    let beside = part.glued || (at + 1 < parts.len() && parts[at + 1].glued);
     match &part.shape {
         Shape::Fixed(_, _) => {}
-        Shape::Parameter(place) => note_use(uses, *place, beside),
+        Shape::Parameter(place) => note_use(uses, *place, stands_beside(parts, at)),
         Shape::Quoted(place) => note_use(uses, *place, true),
     }
 }

@@ -1,0 +1,6 @@
+-- The lists are the same so far.
+use Rattle.std.proofs.Common.{◌≡◌, take}
+use Rattle.cb_macro.proofs.same.same_names.Given as goal
+
+abbrev pub invariant-loop-at : goal.invariant-loop-at
+invariant-loop-at l = take l.at l.names ≡ take l.at l.others
