@@ -8,7 +8,7 @@ use Rattle.std.proofs.lemmas.Slice.Eq.{bytes_eq-Decides}
 use Rattle.cb_tokens.specs.declared.token.Token.{Token}
 use Rattle.cb_macro.specs.declared.item.Before.TheVariants.{Nothing}
 use Rattle.cb_macro.specs.declared.item.Before.{Before}
-use Rattle.cb_macro.specs.declared.part.Part.{Part}
+use Rattle.cb_paste.specs.declared.part.Part.{Part}
 use Rattle.cb_macro.specs.Definitions.{hashes_name_parameters, begins_with_parameter, Parameters, with_name, are_distinct, parameter_of, some_parameters}
 use Rattle.cb_macro.specs.Signs.{is_hash}
 use Rattle.cb_macro.specs.Parts.{items, glues, token_item, quoted_item, quoted_at}

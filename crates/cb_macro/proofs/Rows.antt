@@ -5,9 +5,9 @@ use Rattle.std.specs.List.{list_all}
 use Prim.Native.String.{String}
 use Rattle.cb_tokens.specs.declared.token.TokenKind.TheVariants.{Identifier, Number, Punct}
 use Rattle.cb_tokens.specs.declared.token.Token.{Token}
-use Rattle.cb_macro.specs.declared.part.Part.{Part}
-use Rattle.cb_macro.specs.declared.part.Shape.{Shape}
-use Rattle.cb_macro.specs.declared.part.Shape.TheVariants.{Fixed, Parameter, Quoted}
+use Rattle.cb_paste.specs.declared.part.Part.{Part}
+use Rattle.cb_paste.specs.declared.part.Shape.{Shape}
+use Rattle.cb_paste.specs.declared.part.Shape.TheVariants.{Fixed, Parameter, Quoted}
 use Rattle.cb_macro.specs.declared.item.Before.TheVariants.{Nothing, Operand, Paste}
 use Rattle.cb_macro.specs.Signs.{is_sign, is_hash, is_paste, is_named, is_macro_name, rest_name}
 use Rattle.cb_macro.specs.Definitions.{Definition, defines, body_of, object_body, function_body, is_called, function_like, checked, without_front_space, may_stand, begins_with_paste, ends_with_paste, hashes_name_parameters, begins_with_parameter, parameter_of, all_parameters, are_distinct, parameters_of, some_parameters}

@@ -2,11 +2,12 @@
 use Rattle.std.proofs.Common.{◌≡◌, ◌<◌, ◌+◌, ℕ, eqb, Bool, true, false, not, ◌&&◌, ◌||◌, cond, List, [], ◌∷◌, ◌++◌, length, drop, get_or, refl, sym, ap, ◌∙◌, ◌-◌, arith, length-append}
 use Rattle.std.specs.Prelude.{if◌then◌else◌, ◌==◌}
 use Rattle.cb_tokens.specs.declared.token.TokenKind.{TokenKind}
-use Rattle.cb_macro.specs.declared.part.Part.{Part}
-use Rattle.cb_macro.specs.declared.part.Shape.{Shape}
-use Rattle.cb_macro.specs.declared.part.Shape.TheVariants.{Fixed, Parameter, Quoted}
+use Rattle.cb_paste.specs.declared.part.Part.{Part}
+use Rattle.cb_paste.specs.declared.part.Shape.{Shape}
+use Rattle.cb_paste.specs.declared.part.Shape.TheVariants.{Fixed, Parameter, Quoted}
+use Rattle.cb_paste.specs.Puts.{next_glued}
 use Rattle.cb_macro.specs.declared.uses.Use.{Use}
-use Rattle.cb_macro.specs.Parts.{is_shown, is_raw, is_parameter, is_quoted, next_glued, use_of, parts, glues, items}
+use Rattle.cb_macro.specs.Parts.{is_shown, is_raw, is_parameter, is_quoted, use_of, parts, glues, items}
 use Rattle.cb_macro.specs.declared.item.Before.TheVariants.{Nothing}
 use Rattle.cb_macro.specs.Definitions.{Definition, all_parameters}
 use Rattle.cb_macro.specs.inner.Kept.{AreUsesOf, AreKeptOf}

@@ -1,9 +1,10 @@
 -- The parts of a replacement list: what # and ## make of its tokens (6.10.3.2, 6.10.3.3).
 use Rattle.std.specs.Prelude.{ℕ, ◌==◌, ◌&&◌, ◌||◌, Bool, true, false, not, if◌then◌else◌, List, [], ◌∷◌, Option, Some, None}
 use Rattle.cb_tokens.specs.declared.token.Token.{Token}
-use Rattle.cb_macro.specs.declared.part.Part.{Part}
-use Rattle.cb_macro.specs.declared.part.Shape.{Shape}
-use Rattle.cb_macro.specs.declared.part.Shape.TheVariants.{Fixed, Parameter, Quoted}
+use Rattle.cb_paste.specs.declared.part.Part.{Part}
+use Rattle.cb_paste.specs.declared.part.Shape.{Shape}
+use Rattle.cb_paste.specs.declared.part.Shape.TheVariants.{Fixed, Parameter, Quoted}
+use Rattle.cb_paste.specs.Puts.{next_glued}
 use Rattle.cb_macro.specs.declared.uses.Use.{Use}
 use Rattle.cb_macro.specs.declared.item.Item.{Item}
 use Rattle.cb_macro.specs.declared.item.Before.{Before}
@@ -52,11 +53,6 @@ glues Paste (i ∷ more) = part_of true i ∷ glues Operand more
 -- the parts of a definition's replacement list (6.10.3.2 paragraph 2, 6.10.3.3 paragraph 3)
 unfoldable pub parts : Definition → List Part
 parts d = glues Nothing (items d.is_function (all_parameters d) d.replacement)
-
--- ## joins the first part to what stands before it (6.10.3.3 paragraph 3)
-abbrev pub next_glued : List Part → Bool
-next_glued [] = false
-next_glued (p ∷ ps) = p.glued
 
 -- the part is the parameter in this place, outside # (6.10.3.1 paragraph 1)
 abbrev pub is_parameter : ℕ → Shape → Bool

@@ -6,7 +6,7 @@ ghost use Rattle.cb_macro.specs.Parts.{parts, is_shown, is_raw};
 use crate::item::read_parts;
 use crate::names::Names;
 use crate::parameters::Parameters;
-use crate::part::Part;
+use cb_paste::Part;
 use crate::same::{same_names, same_tokens};
 use crate::uses::{Use, read_uses};
 use cb_paths::{Bytes, NoMemory};

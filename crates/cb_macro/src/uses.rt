@@ -1,13 +1,13 @@
 //! How the parameters of a macro are used.
 ghost use Rattle.std.specs.Prelude.{◌≡◌, ℕ, ◌==◌, ◌||◌, ◌+◌, ◌<◌, [], length, drop, IfOk, if◌then◌else◌};
 ghost use Rattle.std.specs.List.{slice_index_or};
-ghost use Rattle.cb_macro.specs.declared.part.Part.{Part};
+ghost use Rattle.cb_paste.specs.declared.part.Part.{Part};
 ghost use Rattle.cb_macro.specs.declared.uses.Use.{Use};
-ghost use Rattle.cb_macro.specs.Parts.{next_glued};
+ghost use Rattle.cb_paste.specs.Puts.{next_glued};
 ghost use Rattle.cb_macro.specs.inner.Uses.{used};
 ghost use Rattle.cb_macro.specs.inner.Kept.{AreUsesOf};
 
-use crate::part::{Part, Shape};
+use cb_paste::{Part, Shape};
 use cb_paths::NoMemory;
 use std::alloc::Global;
 

@@ -1,7 +1,7 @@
 -- What a macro keeps beside its definition.
 use Rattle.std.specs.Prelude.{◌≡◌, ℕ, ◌<◌, List, length}
 use Rattle.std.specs.List.{slice_index_or}
-use Rattle.cb_macro.specs.declared.part.Part.{Part}
+use Rattle.cb_paste.specs.declared.part.Part.{Part}
 use Rattle.cb_macro.specs.declared.uses.Use.{Use}
 use Rattle.cb_macro.specs.Definitions.{Definition, all_parameters}
 use Rattle.cb_macro.specs.Parts.{parts, use_of}
