@@ -1,17 +1,16 @@
 -- The first item of tokens, the names behind a parameter, and distinct names.
-use Rattle.std.proofs.Common.{◌≡◌, ◌<◌, ◌≤◌, ◌+◌, ℕ, Bool, true, false, not, ◌&&◌, cond, List, [], ◌∷◌, ◌++◌, length, drop, take, get_or, subst, ◌||◌, Option, Some, None, option_map, refl, sym, ap, ◌∙◌, append_assoc, append-nil, arith}
+use Rattle.std.proofs.Common.{◌≡◌, ◌<◌, ◌≤◌, ◌+◌, ℕ, Bool, true, false, not, ◌&&◌, List, [], ◌∷◌, ◌++◌, length, drop, take, get_or, subst, ◌||◌, Option, Some, None, option_map, refl, sym, ap, ◌∙◌, append_assoc, append-nil, arith}
 use Rattle.std.specs.List.{list_any}
 use Rattle.std.specs.Str.{bytes_eq}
-use Rattle.std.proofs.lemmas.List.{drop_more, take_more, drop_all, take_rest, drop-drop, take-append-drop}
+use Rattle.std.proofs.lemmas.List.{drop_more, take_more, drop_all, drop-drop, take-append-drop}
 use Rattle.std.proofs.lemmas.List.Folds.{list_any-append}
 use Rattle.std.proofs.lemmas.Slice.Eq.{bytes_eq-Decides}
 use Rattle.cb_tokens.specs.declared.token.Token.{Token}
-use Rattle.cb_macro.specs.declared.item.Before.TheVariants.{Nothing}
 use Rattle.cb_macro.specs.declared.item.Before.{Before}
 use Rattle.cb_paste.specs.declared.part.Part.{Part}
-use Rattle.cb_macro.specs.Definitions.{hashes_name_parameters, begins_with_parameter, Parameters, with_name, are_distinct, parameter_of, some_parameters}
+use Rattle.cb_macro.specs.Definitions.{hashes_name_parameters, begins_with_parameter, Parameters, with_name, are_distinct, some_parameters}
 use Rattle.cb_macro.specs.Signs.{is_hash}
-use Rattle.cb_macro.specs.Parts.{items, glues, token_item, quoted_item, quoted_at}
+use Rattle.cb_macro.specs.Parts.{items, glues, token_item, quoted_item}
 use Rattle.cb_macro.specs.inner.Reading.{quoted_front, with_names}
 
 -- # with its parameter is the first item
@@ -97,12 +96,12 @@ pub stands_twice : (names : List (List ℕ)) (i : ℕ) (d : List ℕ)
     → i < length names → list_any (bytes_eq (get_or names i d)) (take i names) ≡ true → are_distinct names ≡ false
 stands_twice names i d h twice =
     let front : are_distinct (take (i + 1) names) ≡ false =
-        rw (take_more names i d h, distinct-push (take i names) (get_or names i d), twice) (and_false (are_distinct (take i names))) in
+    rw (take_more names i d h, distinct-push (take i names) (get_or names i d), twice) (and_false (are_distinct (take i names))) in
     subst (λ ns. are_distinct ns ≡ false) (take-append-drop (i + 1) names) (distinct-front (take (i + 1) names) (drop (i + 1) names) front)
   where
-  and_false : (b : Bool) → (b && false) ≡ false
-  and_false true = refl
-  and_false false = refl
+    and_false : (b : Bool) → (b && false) ≡ false
+    and_false true = refl
+    and_false false = refl
 
 -- one more distinct name of a list
 pub distinct_more : (names : List (List ℕ)) (i : ℕ) (d : List ℕ)

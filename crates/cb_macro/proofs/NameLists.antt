@@ -1,5 +1,5 @@
 -- Lists of names that are seen through a map.
-use Rattle.std.proofs.Common.{◌≡◌, ℕ, ◌+◌, Bool, true, false, cond, List, [], ◌∷◌, map, position, refl, ap, sym, ◌∙◌, arith, length, not}
+use Rattle.std.proofs.Common.{◌≡◌, Bool, List, [], ◌∷◌, map, position, refl}
 use Rattle.std.specs.List.{list_any, position_or_len}
 use Rattle.std.proofs.Math.ListN.{length-map}
 

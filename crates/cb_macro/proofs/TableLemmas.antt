@@ -1,7 +1,6 @@
 -- The entries of a table, as they are seen.
-use Rattle.std.proofs.Common.{◌≡◌, ◌<◌, ◌≤◌, ℕ, Bool, true, false, cond, List, [], ◌∷◌, map, Option, Some, None, option_map, find, position, length, refl, sym, ap, get_or, ◌∙◌, arith}
+use Rattle.std.proofs.Common.{◌≡◌, ◌<◌, ℕ, Bool, true, false, cond, List, [], ◌∷◌, map, Option, Some, None, option_map, find, position, length, refl, sym, ap, get_or, ◌∙◌, arith}
 use Rattle.std.specs.Prelude.{if◌then◌else◌, swap_remove, slice_get, IsSomeAnd, MatchOption}
-use Rattle.std.specs.List.{position_or_len}
 use Rattle.std.specs.Option.{option_map_or}
 use Rattle.std.specs.Str.{bytes_eq}
 use Rattle.std.specs.Map.{lookup, keys_of, KeepsOthers}
@@ -25,10 +24,10 @@ pub lookup-seen : {K : Type 0} (key : K → List ℕ) (name : List ℕ) (es : Li
 lookup-seen key name [] = refl
 lookup-seen key name (e ∷ es) = step (bytes_eq name (key e.0)) (key e.0) e.1 _ _ (lookup-seen key name es)
   where
-  step : (b : Bool) (n : List ℕ) (d : Definition) (o : Option Definition) (p : Option (List ℕ × Definition))
-      → o ≡ option_map (λ q. q.1) p → cond b (Some d) o ≡ option_map (λ q. q.1) (cond b (Some (n, d)) p)
-  step true n d o p h = refl
-  step false n d o p h = h
+    step : (b : Bool) (n : List ℕ) (d : Definition) (o : Option Definition) (p : Option (List ℕ × Definition))
+        → o ≡ option_map (λ q. q.1) p → cond b (Some d) o ≡ option_map (λ q. q.1) (cond b (Some (n, d)) p)
+    step true n d o p h = refl
+    step false n d o p h = h
 
 -- one more entry, as it is seen
 pub insert-seen : {K : Type 0} (key : K → List ℕ) (es : List (K × Definition)) (k : K) (d : Definition)
@@ -36,10 +35,10 @@ pub insert-seen : {K : Type 0} (key : K → List ℕ) (es : List (K × Definitio
 insert-seen key [] k d = refl
 insert-seen {K} key (e ∷ es) k d = step (bytes_eq (key k) (key e.0)) _ _ (insert-seen key es k d)
   where
-  step : (b : Bool) (more : List (K × Definition)) (others : List (List ℕ × Definition)) → seen key more ≡ others
-      → seen key (cond b ((e.0, d) ∷ es) (e ∷ more)) ≡ cond b ((key e.0, d) ∷ seen key es) ((key e.0, e.1) ∷ others)
-  step true more others h = refl
-  step false more others h = ap (λ os. (key e.0, e.1) ∷ os) h
+    step : (b : Bool) (more : List (K × Definition)) (others : List (List ℕ × Definition)) → seen key more ≡ others
+        → seen key (cond b ((e.0, d) ∷ es) (e ∷ more)) ≡ cond b ((key e.0, d) ∷ seen key es) ((key e.0, e.1) ∷ others)
+    step true more others h = refl
+    step false more others h = ap (λ os. (key e.0, e.1) ∷ os) h
 
 -- the place of a query is that of its name
 pub place-seen : {K : Type 0} (key : K → List ℕ) (name : List ℕ) (es : List (K × Definition))
@@ -55,13 +54,14 @@ remove-seen {K} key name (e ∷ es) =
     by_place (position (λ k. bytes_eq name (key k)) (keys_of (e ∷ es)))
     ∙ ap (λ o. option_map_or (λ i. swap_remove (seen key (e ∷ es)) i (key e.0, e.1)) o (seen key (e ∷ es))) (place-seen key name (e ∷ es))
   where
-  some_entries : 0 < length (e ∷ es)
-  some_entries = omega arith
-  by_place : (o : Option ℕ)
-      → seen key (option_map_or (λ i. swap_remove (e ∷ es) i e) o (e ∷ es))
-      ≡ option_map_or (λ i. swap_remove (seen key (e ∷ es)) i (key e.0, e.1)) o (seen key (e ∷ es))
-  by_place None = refl
-  by_place (Some i) = map-swap_remove (λ e. (key e.0, e.1)) (e ∷ es) i e some_entries
+    some_entries : 0 < length (e ∷ es)
+    some_entries = omega arith
+
+    by_place : (o : Option ℕ)
+        → seen key (option_map_or (λ i. swap_remove (e ∷ es) i e) o (e ∷ es))
+        ≡ option_map_or (λ i. swap_remove (seen key (e ∷ es)) i (key e.0, e.1)) o (seen key (e ∷ es))
+    by_place None = refl
+    by_place (Some i) = map-swap_remove (λ e. (key e.0, e.1)) (e ∷ es) i e some_entries
 
 -- where one name is changed, each other one stays
 pub update-seen : {K : Type 0} (key : K → List ℕ) (name other : List ℕ) (old new : List (K × Definition)) (w : Option Definition)
@@ -71,12 +71,12 @@ pub update-seen : {K : Type 0} (key : K → List ℕ) (name other : List ℕ) (o
 unfolding KeepsOthers
 update-seen {K} key name other old new w here keeps = by_name (bytes_eq other name) refl
   where
-  by_name : (b : Bool) → bytes_eq other name ≡ b → found (seen key new) other ≡ (if b then w else found (seen key old) other)
-  by_name true same = rw ((bytes_eq-Decides other name).0 same) (sym (lookup-seen key name new) ∙ here)
-  by_name false apart =
-      sym (lookup-seen key other new)
-      ∙ (keeps (λ k. bytes_eq other (key k)) (λ x y h. ap (λ n. bytes_eq n (key y)) ((bytes_eq-Decides other (key x)).0 h))
-            (λ k h. ap (λ n. bytes_eq other n) (sym ((bytes_eq-Decides name (key k)).0 h)) ∙ apart)
+    by_name : (b : Bool) → bytes_eq other name ≡ b → found (seen key new) other ≡ (if b then w else found (seen key old) other)
+    by_name true same = rw ((bytes_eq-Decides other name).0 same) (sym (lookup-seen key name new) ∙ here)
+    by_name false apart =
+        sym (lookup-seen key other new)
+        ∙ (keeps (λ k. bytes_eq other (key k)) (λ x y h. ap (λ n. bytes_eq n (key y)) ((bytes_eq-Decides other (key x)).0 h))
+        (λ k h. ap (λ n. bytes_eq other n) (sym ((bytes_eq-Decides name (key k)).0 h)) ∙ apart)
         ∙ lookup-seen key other old)
 
 -- an entry of which nothing is read
@@ -104,5 +104,5 @@ place-found es name (Some i) h =
     let within = (position-Some (λ p. bytes_eq name p.0) es i no_entry (sym h)).0 in
     let there = slice_get-get_or es i no_entry within in
     let first : find (λ p. bytes_eq name p.0) es ≡ Some (get_or es i no_entry) =
-        find_at (λ p. bytes_eq name p.0) es ∙ (ap (λ n. slice_get es n) (is_first _ _ i (sym h)) ∙ there) in
+    find_at (λ p. bytes_eq name p.0) es ∙ (ap (λ n. slice_get es n) (is_first _ _ i (sym h)) ∙ there) in
     rw there (rw (← h, first))

@@ -1,13 +1,12 @@
 -- What one more part in front makes of the uses of parameters.
-use Rattle.std.proofs.Common.{◌≡◌, ◌<◌, ◌+◌, ℕ, eqb, Bool, true, false, not, ◌&&◌, ◌||◌, cond, List, [], ◌∷◌, ◌++◌, length, drop, get_or, refl, sym, ap, ◌∙◌, ◌-◌, arith, length-append}
+use Rattle.std.proofs.Common.{◌≡◌, ◌<◌, ◌+◌, ℕ, Bool, true, false, not, ◌&&◌, ◌||◌, List, [], ◌∷◌, ◌++◌, length, drop, get_or, refl, sym, ap, ◌∙◌, ◌-◌, arith, length-append}
 use Rattle.std.specs.Prelude.{if◌then◌else◌, ◌==◌}
 use Rattle.cb_tokens.specs.declared.token.TokenKind.{TokenKind}
 use Rattle.cb_paste.specs.declared.part.Part.{Part}
-use Rattle.cb_paste.specs.declared.part.Shape.{Shape}
 use Rattle.cb_paste.specs.declared.part.Shape.TheVariants.{Fixed, Parameter, Quoted}
 use Rattle.cb_paste.specs.Puts.{next_glued}
 use Rattle.cb_macro.specs.declared.uses.Use.{Use}
-use Rattle.cb_macro.specs.Parts.{is_shown, is_raw, is_parameter, is_quoted, use_of, parts, glues, items}
+use Rattle.cb_macro.specs.Parts.{is_shown, is_raw, use_of, parts, glues, items}
 use Rattle.cb_macro.specs.declared.item.Before.TheVariants.{Nothing}
 use Rattle.cb_macro.specs.Definitions.{Definition, all_parameters}
 use Rattle.cb_macro.specs.inner.Kept.{AreUsesOf, AreKeptOf}
@@ -82,8 +81,8 @@ unused_more uses new noted e = λ i other h.
     (rw (get_or-append_right uses (new ∷ []) (length uses) (length uses) other refl (omega arith), use-none (length uses)) (at_front (length uses) other ∙ e))
     i (omega (arith, h, length-append uses (new ∷ [])))
   where
-  at_front : (n : ℕ) (other : Use) → get_or (new ∷ []) (n - n) other ≡ new
-  at_front n other = rw (sub_self n)
+    at_front : (n : ℕ) (other : Use) → get_or (new ∷ []) (n - n) other ≡ new
+    at_front n other = rw (sub_self n)
 
 -- the fields of a use
 pub shown_of : (i : ℕ) (ps : List Part) → (use_of i ps).is_shown ≡ is_shown i ps

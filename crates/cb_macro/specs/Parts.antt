@@ -34,9 +34,9 @@ unfoldable pub items : Bool → List (List ℕ) → List Token → List Item
 items is_function names [] = []
 items is_function names (t ∷ []) = token_item names t ∷ []
 items is_function names (t ∷ u ∷ ts) = elim (quoted_at is_function names t u) [
-    Some i ↦ quoted_item t i ∷ items is_function names ts
+  | Some i ↦ quoted_item t i ∷ items is_function names ts
   | None ↦ token_item names t ∷ items is_function names (u ∷ ts)
-  ]
+]
 
 -- the item as a part, which ## joins to the part before it or not (6.10.3.3 paragraph 3)
 abbrev pub part_of : Bool → Item → Part

@@ -61,11 +61,7 @@ fn object_macro(alloc: Global, tokens: &[Token]) -> Result<Macro, DefineFault>
 
 /// The function-like macro with these parameters and this replacement list.
 #[tactic(auto, unfolding(crate::specs::Definitions::function_like, crate::specs::Definitions::all_parameters))]
-fn macro_with(
-    alloc: Global,
-    parameters: Parameters,
-    tokens: &[Token],
-) -> Result<Macro, DefineFault>
+fn macro_with(alloc: Global, parameters: Parameters, tokens: &[Token]) -> Result<Macro, DefineFault>
     ensures read { IfOk result (λ m. function_like tokens.now (record { names = parameters.names.items; is_variadic = parameters.is_variadic }) ≡ Some m) }
     ensures bad { IfErr result (λ fault. OnBad fault (function_like tokens.now (record { names = parameters.names.items; is_variadic = parameters.is_variadic }) ≡ None)) }
 {

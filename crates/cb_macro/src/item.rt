@@ -6,8 +6,8 @@ ghost use Rattle.cb_macro.specs.declared.item.Item.{Item};
 ghost use Rattle.cb_macro.specs.inner.Reading.{quoted_front};
 
 use crate::names::Names;
-use cb_paste::{Part, Shape};
 use crate::signs::{reads_hash, reads_paste};
+use cb_paste::{Part, Shape};
 use cb_paths::NoMemory;
 use cb_tokens::Token;
 use std::alloc::Global;

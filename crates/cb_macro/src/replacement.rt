@@ -57,7 +57,12 @@ fn has_rest_name(tokens: &[Token]) -> bool
 
 /// Whether a replacement list keeps the constraints.
 #[tactic(auto, unfolding(crate::specs::Definitions::may_stand))]
-pub(crate) fn keeps_constraints(is_function: bool, parameters: &Parameters, names: &Names, tokens: &[Token]) -> bool
+pub(crate) fn keeps_constraints(
+    is_function: bool,
+    parameters: &Parameters,
+    names: &Names,
+    tokens: &[Token],
+) -> bool
     requires { names.now ≡ all_parameters (record { is_function = is_function; parameters = parameters.now.names.items; is_variadic = parameters.now.is_variadic; replacement = tokens.now }) }
     ensures { result ≡ may_stand (record { is_function = is_function; parameters = parameters.now.names.items; is_variadic = parameters.now.is_variadic; replacement = tokens.now }) }
 {

@@ -81,11 +81,7 @@ fn note_part(uses: &mut [Use], parts: &[Part], at: usize)
 }
 
 /// How each parameter is used in these parts.
-pub(crate) fn read_uses(
-    alloc: Global,
-    count: usize,
-    parts: &[Part],
-) -> Result<Vec<Use>, NoMemory>
+pub(crate) fn read_uses(alloc: Global, count: usize, parts: &[Part]) -> Result<Vec<Use>, NoMemory>
     ensures uses { IfOk result (λ uses. AreUsesOf uses.items parts.now) }
     ensures count { IfOk result (λ uses. length uses.items ≡ count) }
 {

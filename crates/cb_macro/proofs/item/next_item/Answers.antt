@@ -1,5 +1,5 @@
 -- The first item by what the tokens begin with.
-use Rattle.std.proofs.Common.{◌≡◌, ◌∙◌, ap, sym}
+use Rattle.std.proofs.Common.{sym}
 use Rattle.cb_macro.proofs.FirstItems.{items-quoted, items-token}
 use Rattle.cb_macro.proofs.item.next_item.Goals as goal
 

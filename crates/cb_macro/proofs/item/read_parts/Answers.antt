@@ -1,5 +1,4 @@
 -- No tokens are left.
-use Rattle.std.proofs.Common.{◌≡◌, ◌∙◌, ap, sym}
 use Rattle.cb_macro.proofs.FirstItems.{parts_end}
 use Rattle.cb_macro.proofs.item.read_parts.Goals as goal
 

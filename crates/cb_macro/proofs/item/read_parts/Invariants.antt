@@ -7,7 +7,7 @@ use Rattle.cb_macro.proofs.item.read_parts.Given as goal
 abbrev pub invariant-tokens : goal.invariant-tokens
 invariant-tokens l = record {
   within : l.at ≤ length l.tokens;
-  read : l.parts.items ++ glues l.before (items l.is_function l.names (drop l.at l.tokens)) ≡ glues Nothing (items l.is_function l.names l.tokens)
+  read : l.parts.items ++ glues l.before (items l.is_function l.names (drop l.at l.tokens)) ≡ glues Nothing (items l.is_function l.names l.tokens);
 }
 
 abbrev pub decreases-tokens : goal.decreases-tokens

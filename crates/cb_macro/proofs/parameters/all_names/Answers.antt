@@ -1,5 +1,5 @@
 -- One more name, which is new or stands twice.
-use Rattle.std.proofs.Common.{◌≡◌, true, false, Ok, ◌∙◌, ap, sym}
+use Rattle.std.proofs.Common.{Ok, ◌∙◌, ap, sym}
 use Rattle.cb_macro.proofs.FirstItems.{distinct_none, distinct_more, stands_twice, held_more, not_true, not_false}
 use Rattle.cb_macro.proofs.parameters.all_names.Goals as goal
 
@@ -20,5 +20,5 @@ loop-name-preserved c = record {
   distinct =
       let new = not_true _ (sym c.in_ok-add.ensures.new ∙ c.if-not-branch.false) in
       let new' = rw (c.loop-name.invariant.held, c.as_slice.ensures, c.name-item.is) at new in
-      distinct_more _ _ _ c.loop-name-test.true c.loop-name.invariant.distinct new'
+      distinct_more _ _ _ c.loop-name-test.true c.loop-name.invariant.distinct new';
 }

@@ -7,7 +7,7 @@ use Rattle.cb_macro.proofs.parameters.read_parameters.Given as goal
 abbrev pub invariant-names : goal.invariant-names
 invariant-names l = record {
   within : l.at ≤ length l.tokens;
-  read : with_names l.names.items (some_parameters (drop l.at l.tokens)) ≡ parameters_of l.tokens
+  read : with_names l.names.items (some_parameters (drop l.at l.tokens)) ≡ parameters_of l.tokens;
 }
 
 abbrev pub decreases-names : goal.decreases-names

@@ -1,5 +1,5 @@
 -- The part stands in front of those that are noted.
-use Rattle.std.proofs.Common.{◌≡◌, ◌+◌, ◌∙◌, ap, sym, drop}
+use Rattle.std.proofs.Common.{◌+◌, ◌∙◌, sym, drop}
 use Rattle.std.proofs.lemmas.List.{drop_more}
 use Rattle.cb_macro.proofs.UseLemmas.{use-fixed, noted-parameter, noted-quoted}
 use Rattle.cb_macro.proofs.uses.note_part.Goals as goal

@@ -7,7 +7,7 @@ abbrev pub invariant-parts : goal.invariant-parts
 invariant-parts l = record {
   within : l.at ≤ length l.parts;
   noted : AreUsesOf l.uses.items (drop l.at l.parts);
-  count : length l.uses.items ≡ l.count
+  count : length l.uses.items ≡ l.count;
 }
 
 abbrev pub decreases-parts : goal.decreases-parts

@@ -1,5 +1,5 @@
 -- No use is noted so far.
-use Rattle.std.proofs.Common.{◌≡◌, ◌≤◌, ◌-◌, [], length}
+use Rattle.std.proofs.Common.{◌≤◌, ◌-◌, [], length}
 use Rattle.cb_macro.specs.inner.Kept.{AreUsesOf}
 use Rattle.cb_macro.proofs.uses.unused.Given as goal
 

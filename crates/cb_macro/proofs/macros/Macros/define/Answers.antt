@@ -8,7 +8,7 @@ returns-clause-defined c = λ other.
     let name = c.in_ok-name.ensures.items ∙ c.as_slice.ensures in
     rw (← c.self.view_is, ← name)
     (update-seen (λ k. k.items) c.in_ok-name.name.items other c.self.inside.table.entries c.insert.new.self.entries (Some c.args.defined.body)
-        c.in_ok-insert.ensures.updates.1 c.in_ok-insert.ensures.updates.3)
+    c.in_ok-insert.ensures.updates.1 c.in_ok-insert.ensures.updates.3)
 
 pub returns-clause-entries : goal.returns-clause-entries
 returns-clause-entries c =

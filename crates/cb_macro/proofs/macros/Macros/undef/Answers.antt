@@ -7,7 +7,7 @@ pub returns-clause-undefined : goal.returns-clause-undefined
 returns-clause-undefined c = λ other.
     rw (← c.self.view_is)
     (update-seen (λ k. k.items) c.args.name.now other c.self.inside.table.entries c.swap_remove.new.self.entries None
-        c.swap_remove.ensures.updates.1 c.swap_remove.ensures.updates.3)
+    c.swap_remove.ensures.updates.1 c.swap_remove.ensures.updates.3)
 
 pub returns-clause-entries : goal.returns-clause-entries
 returns-clause-entries c =

@@ -1,5 +1,5 @@
 -- A test of the names is a test of what they are seen as.
-use Rattle.std.proofs.Common.{◌≡◌, ◌∙◌, ap, not}
+use Rattle.std.proofs.Common.{◌∙◌, ap, not}
 use Rattle.std.specs.Str.{bytes_eq}
 use Rattle.cb_macro.proofs.NameLists.{any-map}
 use Rattle.cb_macro.proofs.names.Names.add.Goals as goal
