@@ -6,7 +6,7 @@ use Rattle.csv.specs.Records.{field_at}
 use Rattle.csv.specs.declared.reader.Reader.{Reader}
 use Rattle.csv.specs.Reading.{ReadRecord}
 use Rattle.csv.proofs.ReadFacts.{rows-end, rows-more}
-use Rattle.cb_measure.specs.Inner.{IsBehind}
+use Rattle.cb_measure.specs.inner.Records.{IsBehind}
 use Rattle.cb_measure.specs.Reading.{records_of}
 use Rattle.std.proofs.lemmas.List.{append-nil}
 use Rattle.csv.specs.Machine.{Read, step, is_end, ends_at_end, next_record, fields_after, field_after}

@@ -3,7 +3,7 @@ use Rattle.std.proofs.Common.{◌≡◌, ℕ, ◌^◌, ◌<◌, ◌≤◌, Bool,
 use Rattle.std.specs.List.{fold, list_all}
 use Rattle.std.specs.Str.{bytes_eq}
 use Rattle.std.proofs.lemmas.Bool.Decides.{nat_tests}
-use Rattle.cb_measure.specs.Inner.{is_small}
+use Rattle.cb_measure.specs.inner.Finding.{is_small}
 use Rattle.cb_measure.specs.Metrics.{better, least, of_run, of_place, figure_on, best_on}
 use Rattle.cb_measure.specs.declared.row.Row.{Row}
 

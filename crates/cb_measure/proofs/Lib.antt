@@ -5,3 +5,5 @@ pub mod NameLists
 pub mod Least
 pub mod Means
 pub mod Placed
+pub mod Numbered
+pub mod Counted

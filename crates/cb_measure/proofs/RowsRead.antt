@@ -12,7 +12,7 @@ use Rattle.std.proofs.lemmas.List.Sums.{fold-append}
 use denote.Ref.{Bor}
 use Rattle.csv.specs.declared.reader.Reader.{Reader}
 use Rattle.cb_measure.specs.Names.{names_of}
-use Rattle.cb_measure.specs.Inner.{IsBehind}
+use Rattle.cb_measure.specs.inner.Records.{IsBehind}
 use Rattle.cb_measure.specs.Header.{columns_of}
 use Rattle.cb_measure.specs.Reading.{platforms_in, field_of, row_of_fields, row_of, rows_of, rows_of_records, records_of, measurements, and_then}
 use Rattle.cb_measure.specs.declared.header.Columns.{Columns}

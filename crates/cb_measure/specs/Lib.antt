@@ -4,4 +4,4 @@ pub mod Header
 pub mod Reading
 pub mod Metrics
 pub mod Cascade
-pub mod Inner
+pub mod inner

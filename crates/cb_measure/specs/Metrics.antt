@@ -4,7 +4,6 @@ use Rattle.std.specs.List.{fold, list_any}
 use Rattle.std.specs.Str.{bytes_eq}
 use Rattle.cb_paths.specs.Grid.{units}
 use Rattle.cb_measure.specs.Names.{names_of}
-use Rattle.cb_measure.specs.Reading.{platforms_in}
 use Rattle.cb_measure.specs.declared.row.Row.{Row}
 
 -- the row is of this problem
@@ -35,13 +34,9 @@ problems_of rows = names_of (map (λ (row : Row). row.problem) rows)
 unfoldable pub applications_of : List Row → List ℕ → List (List ℕ)
 applications_of rows problem = names_of (map (λ (row : Row). row.application) (filter (of_problem problem) rows))
 
--- some row is of this problem on this platform
-unfoldable pub occurs : List Row → List ℕ → List ℕ → Bool
-occurs rows problem platform = list_any (of_place problem platform) rows
-
 -- the platforms that occur in a row of a problem, rising by their bytes (own)
 unfoldable pub platforms_of : List Row → List ℕ → List (List ℕ)
-platforms_of rows problem = filter (occurs rows problem) (names_of (platforms_in rows))
+platforms_of rows problem = names_of (map (λ (row : Row). row.platform) (filter (of_problem problem) rows))
 
 -- the figure of an application for a problem on a platform: its least positive one, or 0 where it fails there (own)
 unfoldable pub figure_on : List Row → List ℕ → List ℕ → List ℕ → ℕ

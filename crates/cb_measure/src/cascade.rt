@@ -1,103 +1,71 @@
 //! Cascades: the platforms of a problem by falling efficiency of an application.
-ghost use Rattle.std.specs.Prelude.{◌≡◌, ◌≤◌, ◌+◌, ◌*◌, ◌==◌, ◌&&◌, ℕ, List, true, [], length, filter, map, not, nat_lt, if◌then◌else◌, IfOk, OnOk};
-ghost use Rattle.std.specs.List.{fold, list_all, prefix_len, range_with_len};
-ghost use Rattle.cb_measure.specs.Inner.{is_small};
-ghost use Rattle.cb_measure.specs.Metrics.{occurs, figure_on, best_on, platforms_of};
-ghost use Rattle.cb_measure.specs.Cascade.{is_slower, put_platform, step_at, falling, cascade_of};
+ghost use Rattle.std.specs.Prelude.{◌≡◌, ◌≤◌, ◌+◌, List, ℕ, [], ◌∷◌, length, map, not, IfOk, OnOk};
+ghost use Rattle.std.specs.List.{fold, insert, prefix_len, range_with_len};
+ghost use Rattle.cb_measure.specs.Cascade.{put_platform, step_at, falling, cascade_of};
+ghost use Rattle.cb_measure.specs.inner.Timing.{timed, slower};
+ghost use Rattle.cb_measure.specs.declared.timed.Timed.{Timed};
 
-use crate::figures::occurs;
 use crate::mean::Mean;
-use crate::metrics::pace_on;
-use crate::row::Row;
 use crate::rows::Rows;
 use crate::step::Step;
 use crate::steps::Steps;
+use crate::timed::{Timed, is_slower};
 use cb_paths::{Bytes, NoMemory};
 use std::alloc::Global;
 
-/// Whether an application is slower on a platform than on another one.
-#[tactic(auto, unfolding(crate::specs::Cascade::is_slower))]
-fn is_slower(
-    rows: &[Row],
-    problem: &[u8],
-    application: &[u8],
-    platform: &[u8],
-    other: &[u8],
-) -> bool
-    requires { list_all is_small rows.now ≡ true }
-    ensures { result ≡ is_slower rows.now problem.now application.now platform.now other.now }
-{
-    let this = pace_on(rows, problem, application, platform);
-    let that = pace_on(rows, problem, application, other);
-    if that.figure == 0 {
-        return false;
-    }
-    if this.figure == 0 {
-        return true;
-    }
-    u128::from(this.best) * u128::from(that.figure)
-        < u128::from(that.best) * u128::from(this.figure)
-}
-
 /// The place behind the platforms on which an application is no slower than on another one.
-fn place_of(
-    rows: &[Row],
-    problem: &[u8],
-    application: &[u8],
-    platforms: &[Bytes],
-    platform: &[u8],
-) -> usize
-    requires { list_all is_small rows.now ≡ true }
-    ensures place { result ≡ prefix_len (λ first. not (is_slower rows.now problem.now application.now first platform.now)) platforms.now }
-    ensures within { result ≤ length platforms.now }
+fn place_of(order: &[Timed], other: &Timed) -> usize
+    ensures place { result ≡ prefix_len (λ first. not (slower first other.now)) order.now }
+    ensures within { result ≤ length order.now }
 {
-    platforms
+    order
         .iter()
-        .take_while(|first| !is_slower(rows, problem, application, first.as_slice(), platform))
+        .take_while(|first| !is_slower(first, other))
         .count()
 }
 
 /// Puts a platform behind those on which an application is no slower.
-fn put(
-    alloc: Global,
-    rows: &[Row],
-    problem: &[u8],
-    application: &[u8],
-    platforms: &mut Vec<Bytes>,
-    platform: &Bytes,
-) -> Result<(), NoMemory>
-    requires { list_all is_small rows.now ≡ true }
-    ensures put { OnOk result (platforms.new.items ≡ put_platform rows.now problem.now application.now platforms.old.items platform.now) }
-    ensures len { OnOk result (length platforms.new.items ≡ length platforms.old.items + 1) }
+fn put(order: &mut Vec<Timed>, platform: Timed) -> Result<(), NoMemory>
+    ensures put { OnOk result (order.new.items ≡ insert order.old.items (prefix_len (λ first. not (slower first platform)) order.old.items) platform) }
+    ensures len { OnOk result (length order.new.items ≡ length order.old.items + 1) }
 {
-    let place = place_of(
-        rows,
-        problem,
-        application,
-        platforms.as_slice(),
-        platform.as_slice(),
-    );
-    platforms.insert(place, platform.copy(alloc)?)?;
+    let place = place_of(order.as_slice(), &platform);
+    order.insert(place, platform)?;
     Ok(())
 }
 
-/// The platforms of a problem by falling efficiency of an application.
-pub(crate) fn falling_on(
+/// A platform with the figures of an application on it.
+fn timed_on(
     alloc: Global,
-    rows: &[Row],
+    rows: &Rows,
+    problem: &[u8],
+    application: &[u8],
+    platform: &Bytes,
+) -> Result<Timed, NoMemory>
+    ensures { IfOk result (λ t. t ≡ timed rows.now problem.now application.now platform.now) }
+{
+    let pace = rows.pace(problem, application, platform.as_slice());
+    Ok(Timed {
+        platform: platform.copy(alloc)?,
+        best: pace.best,
+        figure: pace.figure,
+    })
+}
+
+/// Platforms by falling efficiency of an application.
+fn falling_on(
+    alloc: Global,
+    rows: &Rows,
     platforms: &[Bytes],
     problem: &[u8],
     application: &[u8],
-) -> Result<Vec<Bytes>, NoMemory>
-    requires { list_all is_small rows.now ≡ true }
-    ensures order { IfOk result (λ order. order.items ≡ fold (put_platform rows.now problem.now application.now) [] (filter (occurs rows.now problem.now) platforms.now)) }
+) -> Result<Vec<Timed>, NoMemory>
+    ensures order { IfOk result (λ order. map (λ (t : Timed). t.platform) order.items ≡ fold (put_platform rows.now problem.now application.now) [] platforms.now) }
     ensures few { IfOk result (λ order. length order.items ≤ length platforms.now) }
 {
     let mut order = Vec::new(alloc);
     'platforms: for platform in platforms {
-        if occurs(rows, problem, platform.as_slice()) {
-            put(alloc, rows, problem, application, &mut order, platform)?;
-        }
+        put(&mut order, timed_on(alloc, rows, problem, application, platform)?)?;
     }
     Ok(order)
 }
@@ -105,22 +73,21 @@ pub(crate) fn falling_on(
 /// The steps of a cascade over platforms in their order.
 fn steps_on(
     alloc: Global,
-    rows: &[Row],
-    platforms: &[Bytes],
+    rows: &Rows,
+    order: &[Timed],
     problem: &[u8],
     application: &[u8],
 ) -> Result<Steps, NoMemory>
-    requires small { list_all is_small rows.now ≡ true }
-    requires few { length platforms.now ≤ 64 }
-    ensures { IfOk result (λ steps. steps ≡ map (step_at rows.now problem.now application.now platforms.now) (range_with_len 0 (length platforms.now))) }
+    requires few { length order.now ≤ 100000 }
+    ensures { IfOk result (λ steps. steps ≡ map (step_at rows.now problem.now application.now (map (λ (t : Timed). t.platform) order.now)) (range_with_len 0 (length order.now))) }
 {
     let mut steps = Steps::new(alloc);
     let mut mean = Mean::none();
-    'platforms: for platform in platforms {
-        let pace = pace_on(rows, problem, application, platform.as_slice());
+    'order: for item in order {
+        let pace = rows.pace(problem, application, item.platform.as_slice());
         mean = mean.with(pace);
         let step = Step {
-            platform: platform.copy(alloc)?,
+            platform: item.platform.copy(alloc)?,
             efficiency: pace.efficiency().unwrap_or(0),
             portability: mean.value(),
         };
@@ -133,7 +100,7 @@ impl Rows {
     /// The cascade of an application for a problem: the platforms with a row of the problem by falling exact
     /// efficiency, those on which the application fails last, and platforms of one efficiency by their names. Each
     /// step has the portability over its platform and those of the steps before it.
-    #[tactic(auto, unfolding(crate::specs::Cascade::cascade_of, crate::specs::Cascade::falling, crate::specs::Metrics::platforms_of))]
+    #[tactic(auto, unfolding(crate::specs::Cascade::cascade_of, crate::specs::Cascade::falling))]
     pub fn cascade(
         &self,
         alloc: Global,
@@ -142,19 +109,8 @@ impl Rows {
     ) -> Result<Steps, NoMemory>
         ensures { IfOk result (λ steps. steps ≡ cascade_of self.now problem.now application.now) }
     {
-        let order = falling_on(
-            alloc,
-            self.rows.as_slice(),
-            self.platforms.as_slice(),
-            problem,
-            application,
-        )?;
-        steps_on(
-            alloc,
-            self.rows.as_slice(),
-            order.as_slice(),
-            problem,
-            application,
-        )
+        let platforms = self.platform_names(alloc, problem)?;
+        let order = falling_on(alloc, self, platforms.as_slice(), problem, application)?;
+        steps_on(alloc, self, order.as_slice(), problem, application)
     }
 }

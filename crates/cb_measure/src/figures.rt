@@ -1,29 +1,21 @@
-//! The figures of runs: the least of an application on a platform, and the best of all.
-ghost use Rattle.std.specs.Prelude.{◌≡◌};
-ghost use Rattle.cb_measure.specs.Metrics.{of_problem, of_place, of_run, better, occurs, figure_on, best_on};
+//! The figures of rows: the least of an application on a platform, and the best of all.
+ghost use Rattle.std.specs.Prelude.{◌≡◌, ℕ, List, IfOk, OnOk, if◌then◌else◌};
+ghost use Rattle.cb_measure.specs.Metrics.{better, figure_on, best_on};
+ghost use Rattle.cb_measure.specs.inner.Numbers.{number_in, IsNumbering};
+ghost use Rattle.cb_measure.specs.inner.Finding.{figure_at, best_at, run_at};
 
+use crate::numbers::{Numbers, number};
 use crate::row::Row;
+use cb_paths::NoMemory;
+use std::alloc::Global;
+use std::collections::HashMap;
+use std::hash::Hash;
 
-/// Whether a row is of a problem.
-pub(crate) fn is_of_problem(row: &Row, problem: &[u8]) -> bool
-    ensures { result ≡ of_problem problem.now row.now }
-{
-    row.problem.as_slice() == problem
-}
+/// The best figures, by the numbers of a problem and a platform.
+pub(crate) type Best = HashMap<(u32, u32), u64>;
 
-/// Whether a row is of a problem on a platform.
-fn is_of_place(row: &Row, problem: &[u8], platform: &[u8]) -> bool
-    ensures { result ≡ of_place problem.now platform.now row.now }
-{
-    row.problem.as_slice() == problem && row.platform.as_slice() == platform
-}
-
-/// Whether a row is a run of an application for a problem on a platform.
-fn is_of_run(row: &Row, problem: &[u8], application: &[u8], platform: &[u8]) -> bool
-    ensures { result ≡ of_run problem.now application.now platform.now row.now }
-{
-    is_of_place(row, problem, platform) && row.application.as_slice() == application
-}
+/// The figures, by the numbers of a problem, an application and a platform.
+pub(crate) type Runs = HashMap<(u32, u32, u32), u64>;
 
 /// The lesser of two figures, of which 0 is none.
 fn better(some: u64, other: u64) -> u64
@@ -38,30 +30,60 @@ fn better(some: u64, other: u64) -> u64
     }
 }
 
-/// Whether some row is of a problem on a platform.
-#[tactic(auto, unfolding(crate::specs::Metrics::occurs))]
-pub(crate) fn occurs(rows: &[Row], problem: &[u8], platform: &[u8]) -> bool
-    ensures { result ≡ occurs rows.now problem.now platform.now }
+/// Lowers the figure at a key to another one, where that is better.
+fn lower<K: Eq + Hash + Copy + Drop>(
+    figures: &mut HashMap<K, u64>,
+    key: K,
+    figure: u64,
+) -> Result<(), NoMemory>
+    ensures { OnOk result ((q : K) → figure_at K.eq figures.new q ≡ (if K.eq key q then better (figure_at K.eq figures.old key) figure else figure_at K.eq figures.old q)) }
 {
-    rows.iter().any(|row| is_of_place(row, problem, platform))
+    let known = figures.get(&key).copied().unwrap_or(0);
+    figures.insert(key, better(known, figure))?;
+    Ok(())
 }
 
-/// The least positive figure of an application for a problem on a platform, or 0 where it fails there.
-#[tactic(auto, unfolding(crate::specs::Metrics::figure_on, crate::specs::Metrics::least))]
-pub(crate) fn figure_on(rows: &[Row], problem: &[u8], application: &[u8], platform: &[u8]) -> u64
-    ensures { result ≡ figure_on rows.now problem.now application.now platform.now }
+/// The best figure of a problem on a platform, by their numbers, or 0 where there is none.
+pub(crate) fn best_at(best: &Best, problem: u32, platform: u32) -> u64
+    ensures { result ≡ best_at best.now problem platform }
 {
-    rows.iter()
-        .filter(|row| is_of_run(row, problem, application, platform))
-        .fold(0, |least, row| better(least, row.fom))
+    best.get(&(problem, platform)).copied().unwrap_or(0)
 }
 
-/// The best figure of all applications for a problem on a platform, or 0 where all fail there.
-#[tactic(auto, unfolding(crate::specs::Metrics::best_on, crate::specs::Metrics::least))]
-pub(crate) fn best_on(rows: &[Row], problem: &[u8], platform: &[u8]) -> u64
-    ensures { result ≡ best_on rows.now problem.now platform.now }
+/// The figure of a problem, an application and a platform, by their numbers, or 0 where there is none.
+pub(crate) fn run_at(runs: &Runs, problem: u32, application: u32, platform: u32) -> u64
+    ensures { result ≡ run_at runs.now problem application platform }
 {
-    rows.iter()
-        .filter(|row| is_of_place(row, problem, platform))
-        .fold(0, |least, row| better(least, row.fom))
+    runs.get(&(problem, application, platform))
+        .copied()
+        .unwrap_or(0)
+}
+
+/// The best figures of rows.
+pub(crate) fn best_of(alloc: Global, rows: &[Row], numbers: &Numbers) -> Result<Best, NoMemory>
+    requires { IsNumbering (number_in numbers.now) rows.now }
+    ensures { IfOk result (λ best. (p h : List ℕ) → best_at best (number_in numbers.now p) (number_in numbers.now h) ≡ best_on rows.now p h) }
+{
+    let mut best = HashMap::new(alloc);
+    'rows: for row in rows {
+        let problem = number(numbers, row.problem.as_slice());
+        let platform = number(numbers, row.platform.as_slice());
+        lower(&mut best, (problem, platform), row.fom)?;
+    }
+    Ok(best)
+}
+
+/// The figures of the applications of rows.
+pub(crate) fn runs_of(alloc: Global, rows: &[Row], numbers: &Numbers) -> Result<Runs, NoMemory>
+    requires { IsNumbering (number_in numbers.now) rows.now }
+    ensures { IfOk result (λ runs. (p a h : List ℕ) → run_at runs (number_in numbers.now p) (number_in numbers.now a) (number_in numbers.now h) ≡ figure_on rows.now p a h) }
+{
+    let mut runs = HashMap::new(alloc);
+    'rows: for row in rows {
+        let problem = number(numbers, row.problem.as_slice());
+        let application = number(numbers, row.application.as_slice());
+        let platform = number(numbers, row.platform.as_slice());
+        lower(&mut runs, (problem, application, platform), row.fom)?;
+    }
+    Ok(runs)
 }

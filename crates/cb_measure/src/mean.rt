@@ -9,7 +9,7 @@ const SQUARE: u128 = 1_000_000_000_000_000_000_000_000;
 
 /// The mean of so many efficiencies by the sum of their reciprocals, on the grid, or 0 of none.
 pub(crate) fn harmonic_mean(count: u64, total: u128) -> u64
-    requires few { count ≤ 64 }
+    requires few { count ≤ 100000 }
     requires low { count * units ≤ total }
     ensures { result ≡ (if count == 0 then 0 else count * 10 ^ 24 / total) }
 {
@@ -48,7 +48,7 @@ impl Mean {
 
     /// One more efficiency, or a failure.
     pub(crate) fn with(self, pace: Pace) -> Mean
-        requires { self.count < 64 }
+        requires { self.count < 100000 }
         ensures few { result.count ≤ self.count + 1 }
         ensures stays { self.has_failed ≡ true → result.has_failed ≡ true }
         ensures fails { pace.figure ≡ 0 → result.has_failed ≡ true }
@@ -74,7 +74,7 @@ impl Mean {
 
     /// The mean, or 0 after a failure and of no efficiency.
     pub(crate) fn value(self) -> u64
-        requires { self.count ≤ 64 }
+        requires { self.count ≤ 100000 }
         ensures { result ≡ (if self.has_failed then 0 else if self.count == 0 then 0 else self.count * 10 ^ 24 / self.total) }
     {
         if self.has_failed {

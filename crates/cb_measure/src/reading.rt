@@ -6,7 +6,7 @@ ghost use Rattle.std.specs.BTreeSet.{insert_key, keys};
 ghost use Rattle.csv.specs.Records.{fields_of};
 ghost use Rattle.cb_paths.specs.Names.{is_name};
 ghost use Rattle.cb_measure.specs.Names.{names_of};
-ghost use Rattle.cb_measure.specs.Inner.{is_small};
+ghost use Rattle.cb_measure.specs.inner.Finding.{is_small};
 ghost use Rattle.cb_measure.specs.Reading.{row_of_fields, row_of, platforms_in, measurements};
 ghost use Rattle.cb_measure.specs.declared.row.Row.{Row};
 ghost use Rattle.cb_measure.specs.declared.bad_csv.BadCsv.{BadCsv};
@@ -132,7 +132,7 @@ pub(crate) fn read_rows(alloc: Global, text: &[u8]) -> Result<Rows, CsvFault>
     let mut rows = Vec::new(alloc);
     'rows: for number in FIRST_ROW..ROW_LIMIT + FIRST_ROW + 1 {
         if !next(&mut reader, &mut record)? {
-            return Ok(Rows::new(alloc, rows, platforms)?);
+            return Ok(Rows::new(alloc, rows)?);
         }
         rows.push(row_of(alloc, &columns, number, &mut platforms, &record)?)?;
     }

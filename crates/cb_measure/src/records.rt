@@ -1,7 +1,7 @@
 //! The records of a file, one after the other.
 ghost use Rattle.std.specs.Prelude.{◌≡◌, ◌++◌, ◌∷◌, ℕ, List, [], true, false, Ok};
 ghost use Rattle.csv.specs.Records.{fields_of};
-ghost use Rattle.cb_measure.specs.Inner.{IsBehind};
+ghost use Rattle.cb_measure.specs.inner.Records.{IsBehind};
 ghost use Rattle.cb_measure.specs.Reading.{field_of, records_of};
 
 use cb_paths::NoMemory;

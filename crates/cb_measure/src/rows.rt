@@ -1,22 +1,22 @@
 //! The measurements of a file.
-ghost use Rattle.std.specs.Prelude.{◌≡◌, ◌==◌, ℕ, length, IfOk, Err, Ok};
+ghost use Rattle.std.specs.Prelude.{◌≡◌, ◌==◌, ◌≤◌, true, length, IfOk, Err, Ok};
+ghost use Rattle.std.specs.List.{list_all};
 ghost use Rattle.cb_measure.specs.Reading.{measurements};
 ghost use Rattle.cb_measure.specs.declared.bad_csv.BadCsv.{BadCsv};
 
 use crate::bad_csv::CsvFault;
-use crate::names::listed;
+use crate::index::{Index, index_of};
 use crate::reading::read_rows;
 use crate::row::Row;
-use cb_paths::{Bytes, NoMemory, Texts};
+use cb_paths::NoMemory;
 use std::alloc::Global;
-use std::collections::BTreeSet;
 use std::marker::Model;
 
 /// The measurements of a file, which contracts see as the list of its rows in their order.
 #[derive(Drop)]
 pub struct Rows {
     pub(crate) rows: Vec<Row>,
-    pub(crate) platforms: Texts,
+    pub(crate) index: Index,
 }
 
 impl Model for Rows {
@@ -25,28 +25,24 @@ impl Model for Rows {
 
     ghost Value = { List Row };
 
-    ghost use Rattle.cb_measure.specs.Inner.{IsTable};
+    ghost use Rattle.cb_measure.specs.inner.Finding.{IsTable};
 
     ghost view = { λ r. r.rows.items };
 
-    ghost invariant = { λ r. IsTable r.rows.items r.platforms };
+    ghost invariant = { λ r. IsTable r.rows.items r.index };
 }
 
 impl Rows {
-    ghost use Rattle.std.specs.BTreeSet.{keys};
-    ghost use Rattle.cb_measure.specs.Inner.{IsTable};
+    ghost use Rattle.cb_measure.specs.inner.Finding.{is_small};
 
-    /// The measurements with these rows and the set of their platforms.
-    pub(crate) fn new(
-        alloc: Global,
-        rows: Vec<Row>,
-        platforms: BTreeSet<Bytes>,
-    ) -> Result<Rows, NoMemory>
-        requires { IsTable rows.items (keys platforms) }
+    /// The measurements with these rows.
+    pub(crate) fn new(alloc: Global, rows: Vec<Row>) -> Result<Rows, NoMemory>
+        requires few { length rows.items ≤ 100000 }
+        requires small { list_all is_small rows.items ≡ true }
         ensures { IfOk result (λ r. r ≡ rows.items) }
     {
-        let platforms = listed(alloc, platforms)?;
-        Ok(Rows { rows, platforms })
+        let index = index_of(alloc, rows.as_slice())?;
+        Ok(Rows { rows, index })
     }
 
     /// The rows in the order of the file.

@@ -18,7 +18,4 @@ rows-preserved c =
 pub returns : goal.returns
 unfolding problems_of
 returns c =
-    let e : keys c.rows.names ≡ names_of (map (λ (row : Row). row.problem) c.args.rows.now) =
     c.rows.invariant ∙ ap (λ (l : List Row). names_of (map (λ (row : Row). row.problem) l)) (take_all c.rows.row-index c.args.rows.now (omega arith))
-    in
-    rw e at c.listed.ensures

@@ -2,7 +2,7 @@ use Rattle.std.proofs.Common.{◌≡◌, ◌+◌, true, false, Err, [], ◌∷�
 use Rattle.std.specs.Result.{is_ok}
 use Rattle.std.specs.BTreeSet.{keys}
 use Rattle.std.proofs.lemmas.List.Folds.{list_all-append}
-use Rattle.cb_measure.specs.Inner.{is_small}
+use Rattle.cb_measure.specs.inner.Finding.{is_small}
 use Rattle.std.proofs.lemmas.Result.{err_from_is_err_and}
 use Rattle.cb_measure.specs.declared.bad_csv.CsvFault.TheVariants as CsvFault
 use Rattle.csv.specs.Records.{fields_of}

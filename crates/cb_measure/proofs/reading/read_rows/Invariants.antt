@@ -1,6 +1,6 @@
 use Rattle.std.proofs.Common.{◌≡◌, ◌+◌, ◌≤◌, length, true}
 use Rattle.std.specs.List.{list_all}
-use Rattle.cb_measure.specs.Inner.{is_small}
+use Rattle.cb_measure.specs.inner.Finding.{is_small}
 use Rattle.std.specs.BTreeSet.{keys}
 use Rattle.cb_measure.proofs.RowsRead.{AreRead}
 use Rattle.cb_measure.proofs.reading.read_rows.Given as goal
