@@ -115,7 +115,6 @@ run_step number all i row old new x z y numbered within is ex ez ey so_far adds 
     turned false false true = refl
     turned false false false = refl
 
-
 -- a step over rows: the names by the numbers of problems
 pub names_step : (f : Row → List ℕ) (number : List ℕ → ℕ) (all : List Row) (i : ℕ) (row : Row) (old new : ℕ → List (List ℕ)) (x : ℕ) → IsNumbering number all → i < length all
     → row ≡ get_or all i row → x ≡ number row.problem → ((p : List ℕ) → old (number p) ≡ names_in f (take i all) p)

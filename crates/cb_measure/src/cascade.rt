@@ -65,7 +65,10 @@ fn falling_on(
 {
     let mut order = Vec::new(alloc);
     'platforms: for platform in platforms {
-        put(&mut order, timed_on(alloc, rows, problem, application, platform)?)?;
+        put(
+            &mut order,
+            timed_on(alloc, rows, problem, application, platform)?,
+        )?;
     }
     Ok(order)
 }

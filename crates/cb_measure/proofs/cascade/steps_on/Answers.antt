@@ -28,12 +28,12 @@ order-preserved c =
     let best = rw c.as_slice.ensures at c.pace-pace.ensures.best in
     let w = c.with-mean.ensures in
     let mean = rw (sym (next_names order i item c.order-test.true c.item-item.is)) at (mean_more rows p a (take i names) item.platform c.order.mean.has_failed c.with-mean.result.has_failed c.order.mean.count c.order.mean.total
-        c.with-mean.result.count c.with-mean.result.total c.pace-pace.result.figure c.pace-pace.result.best c.order.invariant.mean figure best w.because w.ran w.runs w.count w.total) in
+    c.with-mean.result.count c.with-mean.result.total c.pace-pace.result.figure c.pace-pace.result.best c.order.invariant.mean figure best w.because w.ran w.runs w.count w.total) in
     let efficiency : c.unwrap_or.result ≡ unwrap_or (efficiency_of rows p a item.platform) 0 =
     c.unwrap_or.ensures ∙ ap (λ (o : Option ℕ). unwrap_or o 0) (c.efficiency.ensures ∙ efficiency_is rows p a item.platform c.pace-pace.result.figure c.pace-pace.result.best figure best)
     in
     let step = step_is rows p a order i item c.unwrap_or.result c.value.result c.order-test.true c.item-item.is efficiency
-        (c.value.ensures ∙ mean_is rows p a (take (i + 1) names) c.with-mean.result.has_failed c.with-mean.result.count c.with-mean.result.total mean) in
+    (c.value.ensures ∙ mean_is rows p a (take (i + 1) names) c.with-mean.result.has_failed c.with-mean.result.count c.with-mean.result.total mean) in
     record {
       mean = mean;
       few = omega (arith, w.few, c.order.invariant.few);
