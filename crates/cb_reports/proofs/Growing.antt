@@ -55,3 +55,13 @@ listed_grows f start old between text xs i h so_far adds more =
     let name = f (get_or xs i 0) in
     more ∙ ap (λ r. r ++ name) (adds ∙ ap (λ r. r ++ separator i) so_far) ∙ append_assoc (start ++ listed (map f (take i xs))) (separator i) name
     ∙ append_assoc start (listed (map f (take i xs))) (separator i ++ name) ∙ ap (λ r. start ++ r) (sym (listed_more f xs i 0 h))
+
+-- joined names that grow by the next one
+pub joined_grows : (start old between text : List ℕ) (xs : List (List ℕ)) (i : ℕ) (x : List ℕ) → i < length xs → x ≡ get_or xs i x
+    → old ≡ start ++ listed (take i xs) → between ≡ old ++ separator i → text ≡ between ++ x → text ≡ start ++ listed (take (i + 1) xs)
+joined_grows start old between text xs i x h read so_far adds more =
+    let len : length (take i xs) ≡ i = length-take-le i xs (omega arith) in
+    let next : take (i + 1) xs ≡ take i xs ++ x ∷ [] = take_more xs i x h ∙ ap (λ y. take i xs ++ y ∷ []) (sym read) in
+    more ∙ ap (λ r. r ++ x) (adds ∙ ap (λ r. r ++ separator i) so_far) ∙ append_assoc (start ++ listed (take i xs)) (separator i) x
+    ∙ append_assoc start (listed (take i xs)) (separator i ++ x)
+    ∙ ap (λ r. start ++ r) (ap (λ k. listed (take i xs) ++ (separator k ++ x)) (sym len) ∙ sym (ap listed next ∙ listed_push (take i xs) x))

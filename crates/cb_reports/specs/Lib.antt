@@ -7,5 +7,6 @@ pub mod Clustering
 pub mod Kinds
 pub mod Files
 pub mod Summary
+pub mod Measurements
 pub mod Reports
 pub mod Inner

@@ -17,6 +17,14 @@ ten_thousandths n = decimal (n / 10000) ++ codes "." ++ two_digits (n / 100) ++ 
 abbrev pub rounded : ℕ → ℕ
 rounded value = (value + 50000000) / 100000000
 
+-- a number of millionths, with its six places (own)
+abbrev pub millionths : ℕ → List ℕ
+millionths n = decimal (n / 1000000) ++ codes "." ++ two_digits (n / 10000) ++ two_digits (n / 100) ++ two_digits n
+
+-- a grid value with six places (own)
+abbrev pub six_places : ℕ → List ℕ
+six_places value = millionths ((value + 500000) / 1000000)
+
 -- a grid value with four places (own)
 abbrev pub four_places : ℕ → List ℕ
 four_places value = ten_thousandths (rounded value)

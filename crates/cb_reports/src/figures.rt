@@ -2,6 +2,7 @@
 use crate::lists::TextLists;
 use crate::row_lists::{AbsentRows, FileRows, IdleRows, NoteRows};
 use cb_diverge::Fractions;
+use cb_measure::Rows;
 use cb_paths::Texts;
 use cb_sets::Setmap;
 
@@ -18,6 +19,8 @@ pub struct Figures {
     pub pairs: Fractions,
     /// The groups of sources with equal bytes, each a list of paths.
     pub groups: TextLists,
+    /// The measurements, where there are any.
+    pub rows: Option<Rows>,
     /// The platforms whose databases are absent, in their order.
     pub databases: AbsentRows,
     /// The entries of databases that make no command, by their numbers.

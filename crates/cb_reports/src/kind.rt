@@ -12,6 +12,14 @@ pub enum Kind {
     Clustering,
     /// The sources with equal bytes.
     Duplicates,
+    /// The efficiency of each application on each platform.
+    Efficiency,
+    /// The cascade of each application over the platforms.
+    Cascade,
+    /// The performance portability of each application, and where it fails.
+    Portability,
+    /// Convergence beside the performance portability of each application.
+    Navigation,
     /// What was absent, passed over or noted.
     Notes,
 }
@@ -20,7 +28,8 @@ impl Kind {
     ghost use Rattle.cb_reports.specs.declared.kind.Kind.{Kind};
     ghost use Rattle.cb_reports.specs.Kinds.{name_of};
 
-    /// The kind with a name: `summary`, `files`, `clustering`, `duplicates` or `notes`. No other name has one.
+    /// The kind with a name: `summary`, `files`, `clustering`, `duplicates`, `efficiency`, `cascade`,
+    /// `portability`, `navigation` or `notes`. No other name has one.
     pub fn read(name: &[u8]) -> Option<Kind>
         ensures known { IfSome result (λ kind. name.now ≡ name_of kind) }
         ensures unknown { IfNone result ((kind : Kind) → name.now ≡ name_of kind → ⊥) }
@@ -30,6 +39,10 @@ impl Kind {
             b"files" => Some(Kind::Files),
             b"clustering" => Some(Kind::Clustering),
             b"duplicates" => Some(Kind::Duplicates),
+            b"efficiency" => Some(Kind::Efficiency),
+            b"cascade" => Some(Kind::Cascade),
+            b"portability" => Some(Kind::Portability),
+            b"navigation" => Some(Kind::Navigation),
             b"notes" => Some(Kind::Notes),
             _ => None,
         }

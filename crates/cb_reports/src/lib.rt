@@ -8,12 +8,15 @@ mod figures;
 mod files;
 mod kind;
 mod lists;
+mod measurements;
 mod names;
 mod notes;
 mod places;
 mod report;
 mod row_lists;
 mod rows;
+mod run_lines;
+mod run_report;
 mod summary;
 mod text;
 

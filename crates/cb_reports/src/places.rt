@@ -1,6 +1,6 @@
 //! Grid values as decimals.
 ghost use Rattle.std.specs.Prelude.{◌≡◌, ◌++◌, ◌≤◌, OnOk};
-ghost use Rattle.cb_reports.specs.Places.{two_digits, hundredths, ten_thousandths, rounded as rounded_of, four_places, percent};
+ghost use Rattle.cb_reports.specs.Places.{two_digits, hundredths, ten_thousandths, rounded as rounded_of, four_places, six_places, percent};
 
 use crate::text::Text;
 use cb_paths::NoMemory;
@@ -40,5 +40,17 @@ pub(crate) fn add_percent(text: &mut Text, value: u64) -> Result<(), NoMemory>
     let number = rounded(value);
     text.add_number(number / 100)?;
     text.add(b".")?;
+    add_two_digits(text, number)
+}
+
+/// Adds a grid value with six places.
+pub(crate) fn add_six_places(text: &mut Text, value: u64) -> Result<(), NoMemory>
+    ensures { OnOk result (text.new ≡ text.old ++ six_places value) }
+{
+    let number = ((u128::from(value) + 500_000) / 1_000_000) as u64;
+    text.add_number(number / 1_000_000)?;
+    text.add(b".")?;
+    add_two_digits(text, number / 10_000)?;
+    add_two_digits(text, number / 100)?;
     add_two_digits(text, number)
 }

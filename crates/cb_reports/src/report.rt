@@ -10,7 +10,9 @@ use crate::duplicates::duplicates;
 use crate::figures::Figures;
 use crate::files::files;
 use crate::kind::Kind;
+use crate::measurements::measurements;
 use crate::notes::notes;
+use crate::run_report::RunReport;
 use crate::summary::summary;
 use cb_cluster::one_clustering;
 use cb_paths::{Bytes, NoMemory};
@@ -30,6 +32,10 @@ pub fn render(alloc: Global, kind: Kind, figures: &Figures) -> Result<Bytes, NoM
         Kind::Files => files(alloc, names, figures.files.as_slice())?,
         Kind::Clustering => clustering(alloc, names, pairs)?,
         Kind::Duplicates => duplicates(alloc, figures.groups.as_slice())?,
+        Kind::Efficiency => measurements(alloc, RunReport::Efficiency, pairs, &figures.rows)?,
+        Kind::Cascade => measurements(alloc, RunReport::Cascade, pairs, &figures.rows)?,
+        Kind::Portability => measurements(alloc, RunReport::Portability, pairs, &figures.rows)?,
+        Kind::Navigation => measurements(alloc, RunReport::Navigation, pairs, &figures.rows)?,
         Kind::Notes => notes(
             alloc,
             figures.databases.as_slice(),

@@ -139,7 +139,7 @@ fn add_divergence(text: &mut Text, pairs: &[Fraction]) -> Result<(), NoMemory>
 
 /// Adds what divergence leaves to one, where there is one.
 #[tactic(auto, unfolding(crate::specs::Summary::convergence_text))]
-fn add_convergence(text: &mut Text, pairs: &[Fraction]) -> Result<(), NoMemory>
+pub(crate) fn add_convergence(text: &mut Text, pairs: &[Fraction]) -> Result<(), NoMemory>
     ensures { OnOk result (text.new ≡ text.old ++ convergence_text pairs.now) }
 {
     match divergence(pairs) {

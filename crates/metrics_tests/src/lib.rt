@@ -4,6 +4,8 @@
 #[cfg(test)]
 mod distances;
 #[cfg(test)]
+mod made;
+#[cfg(test)]
 mod measure;
 #[cfg(test)]
 mod reports;

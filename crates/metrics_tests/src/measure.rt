@@ -15,6 +15,41 @@ const FAILING: &[u8] = b"problem,platform,application,fom\np,a,x,1\np,b,x,2\np,b
 const WORKED: &[u8] =
     b"fom,other,application,platform,problem\n2,-,x,a,p\n1.0,-,y,a,p\n4,-,x,b,p\n3,-,z,b,p\n1,-,z,b,p\n5,,x,c,p\n2,,y,c,p\n7,,y,c,p\n";
 
+/// Files, the number of the fault of each, and its row; or 0 and the number of rows.
+const FILES: [(&[u8], u32, u32); 15] = [
+    (b"", 1, 1),
+    (b"problem,platform,fom\n", 1, 1),
+    (b"problem,platform,application,fom,fom\n", 1, 1),
+    (b"problem,platform,application,fom\n", 0, 0),
+    (EXAMPLE, 0, 3),
+    (
+        b"\xef\xbb\xbfproblem,platform,application,fom\r\np,a,x,1\r\n\r\n\"p\",\"a\",x,\"2\"\r\n",
+        0,
+        2,
+    ),
+    (
+        b"problem,platform,application,fom\np,a,x,1\np,a,x,1e3\n",
+        3,
+        3,
+    ),
+    (b"problem,platform,application,fom\np,a,x,0.0000001\n", 3, 2),
+    (
+        b"problem,platform,application,fom\np,a,x,0.0000010\np,a,x,0\np,a,x,\n",
+        0,
+        3,
+    ),
+    (
+        b"problem,platform,application,fom\np,a,x,1234567890\n",
+        3,
+        2,
+    ),
+    (b"problem,platform,application,fom\np,a,x,1.\n", 3, 2),
+    (b"problem,platform,application,fom\np,a,x,.5\n", 3, 2),
+    (b"problem,platform,application,fom\np,a,x\n", 2, 2),
+    (b"problem,platform,application,fom\np,a,,1\n", 4, 2),
+    (b"problem,platform,application,fom\n\"p,q\",a,x,1e3\n", 4, 2),
+];
+
 /// The number of the fault of a file and its row, and 0 and the number of rows of one that is read.
 fn outcome(alloc: Global, text: &[u8]) -> Result<(u32, u32), NoMemory> {
     match read(alloc, text) {
@@ -31,67 +66,8 @@ fn outcome(alloc: Global, text: &[u8]) -> Result<(u32, u32), NoMemory> {
 #[test]
 fn faults_are_told(rt: HostRuntime) -> Result<(), Fail> {
     one_reading();
-    for (text, number, row) in [
-        (b"".as_slice(), 1, 1),
-        (b"problem,platform,fom\n".as_slice(), 1, 1),
-        (b"problem,platform,application,fom,fom\n".as_slice(), 1, 1),
-        (b"problem,platform,application,fom\n".as_slice(), 0, 0),
-        (EXAMPLE, 0, 3),
-        (
-            b"\xef\xbb\xbfproblem,platform,application,fom\r\np,a,x,1\r\n\r\n\"p\",\"a\",x,\"2\"\r\n".as_slice(),
-            0,
-            2,
-        ),
-        (
-            b"problem,platform,application,fom\np,a,x,1\np,a,x,1e3\n".as_slice(),
-            3,
-            3,
-        ),
-        (
-            b"problem,platform,application,fom\np,a,x,0.0000001\n".as_slice(),
-            3,
-            2,
-        ),
-        (
-            b"problem,platform,application,fom\np,a,x,0.0000010\np,a,x,0\np,a,x,\n".as_slice(),
-            0,
-            3,
-        ),
-        (
-            b"problem,platform,application,fom\np,a,x,1234567890\n".as_slice(),
-            3,
-            2,
-        ),
-        (
-            b"problem,platform,application,fom\np,a,x,1.\n".as_slice(),
-            3,
-            2,
-        ),
-        (
-            b"problem,platform,application,fom\np,a,x,.5\n".as_slice(),
-            3,
-            2,
-        ),
-        (
-            b"problem,platform,application,fom\np,a,x\n".as_slice(),
-            2,
-            2,
-        ),
-        (
-            b"problem,platform,application,fom\np,a,,1\n".as_slice(),
-            4,
-            2,
-        ),
-        (
-            b"problem,platform,application,fom\n\"p,q\",a,x,1e3\n".as_slice(),
-            4,
-            2,
-        ),
-    ] {
-        assert!(rt;
-            outcome(rt.alloc(), text)? == (number, row),
-            "{number} {row}"
-        );
+    for (at, (text, number, row)) in FILES.iter().enumerate() {
+        assert!(rt; outcome(rt.alloc(), *text)? == (*number, *row), "{at}");
     }
     Ok(())
 }
@@ -141,6 +117,41 @@ fn limits_are_kept(rt: HostRuntime) -> Result<(), Fail> {
     Ok(())
 }
 
+/// Two figures that differ in their seventh digits alone, which are dropped.
+const DROPPED: &[u8] = b"problem,platform,application,fom\np,a,x,1.0000019\np,a,y,1.000001\n";
+
+/// Files, an application and a platform of each, the efficiency there, and the portability of the application for p.
+const FIGURES: [(&[u8], &[u8], &[u8], Option<u64>, u64); 10] = [
+    (
+        EXAMPLE,
+        b"x",
+        b"a",
+        Some(1_000_000_000_000),
+        666_666_666_666,
+    ),
+    (EXAMPLE, b"x", b"b", Some(500_000_000_000), 666_666_666_666),
+    (EXAMPLE, b"y", b"b", Some(1_000_000_000_000), 0),
+    (EXAMPLE, b"y", b"a", None, 0),
+    (FAILING, b"x", b"c", None, 0),
+    (EXAMPLE, b"z", b"a", None, 0),
+    (WORKED, b"x", b"b", Some(250_000_000_000), 352_941_176_470),
+    (WORKED, b"x", b"c", Some(400_000_000_000), 352_941_176_470),
+    (
+        DROPPED,
+        b"x",
+        b"a",
+        Some(1_000_000_000_000),
+        1_000_000_000_000,
+    ),
+    (
+        DROPPED,
+        b"y",
+        b"a",
+        Some(1_000_000_000_000),
+        1_000_000_000_000,
+    ),
+];
+
 /// Whether a file has this efficiency of an application on a platform, and this portability.
 fn says(
     alloc: Global,
@@ -159,55 +170,17 @@ fn says(
 
 #[test]
 fn figures_are_worked_out(rt: HostRuntime) -> Result<(), Fail> {
-    for (text, application, platform, efficiency, portability) in [
-        (
-            EXAMPLE,
-            b"x".as_slice(),
-            b"a".as_slice(),
-            Some(1_000_000_000_000),
-            666_666_666_666,
-        ),
-        (
-            EXAMPLE,
-            b"x".as_slice(),
-            b"b".as_slice(),
-            Some(500_000_000_000),
-            666_666_666_666,
-        ),
-        (
-            EXAMPLE,
-            b"y".as_slice(),
-            b"b".as_slice(),
-            Some(1_000_000_000_000),
-            0,
-        ),
-        (EXAMPLE, b"y".as_slice(), b"a".as_slice(), None, 0),
-        (FAILING, b"x".as_slice(), b"c".as_slice(), None, 0),
-        (EXAMPLE, b"z".as_slice(), b"a".as_slice(), None, 0),
-        (
-            WORKED,
-            b"x".as_slice(),
-            b"b".as_slice(),
-            Some(250_000_000_000),
-            352_941_176_470,
-        ),
-        (
-            WORKED,
-            b"x".as_slice(),
-            b"c".as_slice(),
-            Some(400_000_000_000),
-            352_941_176_470,
-        ),
-    ] {
+    for (at, (text, application, platform, efficiency, portability)) in FIGURES.iter().enumerate() {
         assert!(rt;
             says(
                 rt.alloc(),
-                text,
-                application,
-                platform,
-                efficiency,
-                portability
-            )?
+                *text,
+                *application,
+                *platform,
+                *efficiency,
+                *portability
+            )?,
+            "{at}"
         );
     }
     Ok(())
@@ -247,37 +220,40 @@ fn falls(alloc: Global, text: &[u8], wanted: &[(&[u8], u64, u64)]) -> Result<boo
 const CLOSE: &[u8] =
     b"problem,platform,application,fom\np,a,y,2\np,a,x,3\np,b,y,200000000\np,b,x,299999999.999999\n";
 
+/// The steps of a cascade: a platform, an efficiency and a portability.
+type Steps = &'static [(&'static [u8], u64, u64)];
+
+/// Files, and the cascade of x for p of each.
+const CASCADES: [(&[u8], Steps); 3] = [
+    (
+        FAILING,
+        &[
+            (b"a", 1_000_000_000_000, 1_000_000_000_000),
+            (b"b", 500_000_000_000, 666_666_666_666),
+            (b"c", 0, 0),
+        ],
+    ),
+    (
+        WORKED,
+        &[
+            (b"a", 500_000_000_000, 500_000_000_000),
+            (b"c", 400_000_000_000, 444_444_444_444),
+            (b"b", 250_000_000_000, 352_941_176_470),
+        ],
+    ),
+    (
+        CLOSE,
+        &[
+            (b"b", 666_666_666_666, 666_666_666_667),
+            (b"a", 666_666_666_666, 666_666_666_666),
+        ],
+    ),
+];
+
 #[test]
 fn cascades_fall(rt: HostRuntime) -> Result<(), Fail> {
-    for (text, wanted) in [
-        (
-            FAILING,
-            [
-                (b"a".as_slice(), 1_000_000_000_000, 1_000_000_000_000),
-                (b"b".as_slice(), 500_000_000_000, 666_666_666_666),
-                (b"c".as_slice(), 0, 0),
-            ]
-            .as_slice(),
-        ),
-        (
-            WORKED,
-            [
-                (b"a".as_slice(), 500_000_000_000, 500_000_000_000),
-                (b"c".as_slice(), 400_000_000_000, 444_444_444_444),
-                (b"b".as_slice(), 250_000_000_000, 352_941_176_470),
-            ]
-            .as_slice(),
-        ),
-        (
-            CLOSE,
-            [
-                (b"b".as_slice(), 666_666_666_666, 666_666_666_667),
-                (b"a".as_slice(), 666_666_666_666, 666_666_666_666),
-            ]
-            .as_slice(),
-        ),
-    ] {
-        assert!(rt; falls(rt.alloc(), text, wanted)?);
+    for (at, (text, wanted)) in CASCADES.iter().enumerate() {
+        assert!(rt; falls(rt.alloc(), *text, *wanted)?, "{at}");
     }
     Ok(())
 }
@@ -298,29 +274,25 @@ fn names(
     )
 }
 
+/// Files, their problems, and the applications and platforms of p, each with a line end behind it.
+const NAMES: [(&[u8], &[u8], &[u8], &[u8]); 3] = [
+    (EXAMPLE, b"p\n", b"x\ny\n", b"a\nb\n"),
+    (WORKED, b"p\n", b"x\ny\nz\n", b"a\nb\nc\n"),
+    (
+        b"problem,platform,application,fom\nq,b,y,1\np,d,x,1\nq,a,y,1\nB,a,x,0\n",
+        b"B\np\nq\n",
+        b"x\n",
+        b"d\n",
+    ),
+];
+
 #[test]
 fn names_are_listed(rt: HostRuntime) -> Result<(), Fail> {
-    for (text, problems, applications, platforms) in [
-        (
-            EXAMPLE,
-            b"p\n".as_slice(),
-            b"x\ny\n".as_slice(),
-            b"a\nb\n".as_slice(),
-        ),
-        (
-            WORKED,
-            b"p\n".as_slice(),
-            b"x\ny\nz\n".as_slice(),
-            b"a\nb\nc\n".as_slice(),
-        ),
-        (
-            b"problem,platform,application,fom\nq,b,y,1\np,d,x,1\nq,a,y,1\nB,a,x,0\n".as_slice(),
-            b"B\np\nq\n".as_slice(),
-            b"x\n".as_slice(),
-            b"d\n".as_slice(),
-        ),
-    ] {
-        assert!(rt; names(rt.alloc(), text, problems, applications, platforms)?);
+    for (at, (text, problems, applications, platforms)) in NAMES.iter().enumerate() {
+        assert!(rt;
+            names(rt.alloc(), *text, *problems, *applications, *platforms)?,
+            "{at}"
+        );
     }
     Ok(())
 }

@@ -1,7 +1,8 @@
 //! The texts of reports, worked by hand.
+use crate::made::{Spans, add_file, lines_of, used_of};
 use cb_cluster::pair_count;
 use cb_diverge::{Fractions, distance};
-use cb_lines::{Lines, Span};
+use cb_measure::{Rows, read};
 use cb_paths::{Bytes, NoMemory, Texts};
 use cb_reports::{
     AbsentRow, AbsentRows, Figures, FileRow, FileRows, Idle, IdleRow, IdleRows, Kind, LineLists,
@@ -11,9 +12,6 @@ use cb_sets::Setmap;
 use std::alloc::Global;
 use std::test::Fail;
 
-/// Lines by their spans, each its first and last line.
-type Spans = &'static [(u32, u32)];
-
 /// A source: its path, its counted lines, and those that each platform uses.
 struct Source {
     path: &'static [u8],
@@ -21,13 +19,14 @@ struct Source {
     used: &'static [Spans],
 }
 
-/// Figures, a kind of report, and its text.
+/// Figures, a kind of report, and its text. Where the measurements are no bytes, there are none.
 struct Case {
     kind: Kind,
     platforms: &'static [&'static [u8]],
     sources: &'static [Source],
     groups: &'static [&'static [&'static [u8]]],
     notes: &'static [(&'static [u8], u32, u32, u32, &'static [u8])],
+    measurements: &'static [u8],
     text: &'static [u8],
 }
 
@@ -62,13 +61,20 @@ const SHIFTED: &[Source] = &[
     },
 ];
 
-const CASES: [Case; 9] = [
+/// The application x runs on a and half as well on b, y on b alone.
+const EXAMPLE: &[u8] = b"problem,platform,application,fom\np,a,x,1\np,b,x,2\np,b,y,1\n";
+
+/// The same with a failed run of x on c.
+const FAILING: &[u8] = b"problem,platform,application,fom\np,a,x,1\np,b,x,2\np,b,y,1\np,c,x,0\n";
+
+const CASES: [Case; 18] = [
     Case {
         kind: Kind::Summary,
         platforms: &[b"cpu", b"gpu"],
         sources: GUARDED,
         groups: &[],
         notes: &[],
+        measurements: b"",
         text: b"platforms 2\n1 cpu\n2 gpu\nlines 6\n{cpu} 1 16.67\n{gpu} 1 16.67\n{cpu, gpu} 4 66.67\n\
             coverage 100.00\naverage coverage 83.33\ndivergence 0.3333\nconvergence 0.6667\n",
     },
@@ -78,6 +84,7 @@ const CASES: [Case; 9] = [
         sources: &[],
         groups: &[],
         notes: &[],
+        measurements: b"",
         text: b"platforms 0\nlines 0\ncoverage n/a\naverage coverage n/a\ndivergence n/a\nconvergence n/a\n",
     },
     Case {
@@ -86,6 +93,7 @@ const CASES: [Case; 9] = [
         sources: GUARDED,
         groups: &[],
         notes: &[],
+        measurements: b"",
         text: b"a.c 6\n  cpu 1 3-6\n  gpu 1-3 5-6\n",
     },
     Case {
@@ -105,6 +113,7 @@ const CASES: [Case; 9] = [
         ],
         groups: &[],
         notes: &[],
+        measurements: b"",
         text: b"inc/k.h 1\n  {} 1\nsrc/m.cpp 6\n  cpu 2 4-5\n  {} 1 3 9\n",
     },
     Case {
@@ -113,6 +122,7 @@ const CASES: [Case; 9] = [
         sources: SHIFTED,
         groups: &[],
         notes: &[],
+        measurements: b"",
         text: b"distance a b 0.2500\ndistance a c 0.5000\ndistance b c 0.2500\nmerge 1 {a} {b} 0.2500\n\
             merge 2 {a, b} {c} 0.2500\ncut 0.2500 {a, b, c}\n",
     },
@@ -122,6 +132,7 @@ const CASES: [Case; 9] = [
         sources: &[],
         groups: &[],
         notes: &[],
+        measurements: b"",
         text: b"clustering n/a\n",
     },
     Case {
@@ -130,7 +141,91 @@ const CASES: [Case; 9] = [
         sources: &[],
         groups: &[&[b"f1.c", b"f2.c"], &[b"x.c", b"y.c"]],
         notes: &[],
+        measurements: b"",
         text: b"group 1\n  f1.c\n  f2.c\ngroup 2\n  x.c\n  y.c\n",
+    },
+    Case {
+        kind: Kind::Duplicates,
+        platforms: &[],
+        sources: &[],
+        groups: &[&[b"f1.c", b"f2.c", b"f3.c", b"f4.c"]],
+        notes: &[],
+        measurements: b"",
+        text: b"group 1\n  f1.c\n  f2.c\n  f3.c\n  f4.c\n",
+    },
+    Case {
+        kind: Kind::Portability,
+        platforms: &[],
+        sources: &[],
+        groups: &[],
+        notes: &[],
+        measurements: EXAMPLE,
+        text: b"p,x,0.666667\np,y,0.000000 fails on a\n",
+    },
+    Case {
+        kind: Kind::Portability,
+        platforms: &[],
+        sources: &[],
+        groups: &[],
+        notes: &[],
+        measurements: FAILING,
+        text: b"p,x,0.000000 fails on c\np,y,0.000000 fails on a, c\n",
+    },
+    Case {
+        kind: Kind::Efficiency,
+        platforms: &[],
+        sources: &[],
+        groups: &[],
+        notes: &[],
+        measurements: FAILING,
+        text: b"p,x,a,1.000000\np,x,b,0.500000\np,x,c,0.000000 failed\n\
+            p,y,a,0.000000 failed\np,y,b,1.000000\np,y,c,0.000000 failed\n",
+    },
+    Case {
+        kind: Kind::Cascade,
+        platforms: &[],
+        sources: &[],
+        groups: &[],
+        notes: &[],
+        measurements: FAILING,
+        text: b"p,x,1,a,1.000000,1.000000\np,x,2,b,0.500000,0.666667\np,x,3,c,0.000000,0.000000\n\
+            p,y,1,b,1.000000,1.000000\np,y,2,a,0.000000,0.000000\np,y,3,c,0.000000,0.000000\n",
+    },
+    Case {
+        kind: Kind::Navigation,
+        platforms: &[b"cpu", b"gpu"],
+        sources: GUARDED,
+        groups: &[],
+        notes: &[],
+        measurements: EXAMPLE,
+        text: b"p,x,0.6667,0.666667\np,y,0.6667,0.000000\n",
+    },
+    Case {
+        kind: Kind::Navigation,
+        platforms: &[],
+        sources: &[],
+        groups: &[],
+        notes: &[],
+        measurements: EXAMPLE,
+        text: b"p,x,n/a,0.666667\np,y,n/a,0.000000\n",
+    },
+    Case {
+        kind: Kind::Efficiency,
+        platforms: &[],
+        sources: &[],
+        groups: &[],
+        notes: &[],
+        measurements: b"",
+        text: b"measurements none\n",
+    },
+    Case {
+        kind: Kind::Cascade,
+        platforms: &[],
+        sources: &[],
+        groups: &[],
+        notes: &[],
+        measurements: b"problem,platform,application,fom\n",
+        text: b"measurements none\n",
     },
     Case {
         kind: Kind::Notes,
@@ -142,6 +237,7 @@ const CASES: [Case; 9] = [
             (b"src/m.cpp", 1, 1, 1, b"<vector>"),
             (b"z.c", 3, 7, 1, b"\"\\\x01\xff\""),
         ],
+        measurements: b"",
         text: b"note a.c:start NoMain - commands 2 first 1\nnote src/m.cpp:1 Missing <vector> commands 2 first 1\n\
             note z.c:7 Missing \"\\\\\\x01\\xff\" commands 2 first 1\n",
     },
@@ -151,34 +247,16 @@ const CASES: [Case; 9] = [
         sources: &[],
         groups: &[],
         notes: &[],
+        measurements: b"",
         text: b"notes none\n",
     },
 ];
-
-fn lines_of(alloc: Global, spans: &[(u32, u32)]) -> Result<Lines, NoMemory> {
-    let mut lines = Lines::new(alloc);
-    for (first, last) in spans {
-        lines.add_span(Span {
-            first: *first,
-            last: *last,
-        })?;
-    }
-    Ok(lines)
-}
-
-fn used_of(alloc: Global, used: &[Spans]) -> Result<LineLists, NoMemory> {
-    let mut lists = Vec::new(alloc);
-    for spans in used {
-        lists.push(lines_of(alloc, *spans)?)?;
-    }
-    Ok(LineLists::from_vec(lists))
-}
 
 fn row_of(alloc: Global, source: &Source) -> Result<FileRow, NoMemory> {
     Ok(FileRow {
         path: Bytes::from_slice(alloc, source.path)?,
         counted: lines_of(alloc, source.counted)?,
-        used: used_of(alloc, source.used)?,
+        used: LineLists::from_vec(used_of(alloc, source.used)?),
     })
 }
 
@@ -206,21 +284,10 @@ fn groups_of(alloc: Global, groups: &[&[&[u8]]]) -> Result<TextLists, NoMemory> 
     Ok(TextLists::from_vec(lists))
 }
 
-/// Adds a source, if it has as many platforms as the setmap and no more lines than fit.
-fn add_file(map: &mut Setmap, row: &FileRow) -> Result<(), NoMemory> {
-    let used = row.used.as_slice();
-    if used.len() != map.platforms() as usize
-        || row.counted.count() >= 4_294_967_296 - map.total()
-    {
-        return Ok(());
-    }
-    map.add_file(&row.counted, used)
-}
-
 fn setmap_of(alloc: Global, platforms: usize, rows: &[FileRow]) -> Result<Setmap, NoMemory> {
     let mut map = Setmap::new(alloc, platforms.min(32) as u32);
     for row in rows {
-        add_file(&mut map, row)?;
+        add_file(&mut map, &row.counted, row.used.as_slice())?;
     }
     Ok(map)
 }
@@ -256,29 +323,67 @@ fn notes_of(alloc: Global, notes: &[(&[u8], u32, u32, u32, &[u8])]) -> Result<No
     Ok(NoteRows::from_vec(rows))
 }
 
-/// Figures of counted lines, and nothing else.
-fn counted_of(alloc: Global, case: &Case) -> Result<Figures, NoMemory> {
+/// The measurements of a file, or none where there is no byte or they are refused.
+fn rows_of(alloc: Global, text: &[u8]) -> Option<Rows> {
+    match read(alloc, text) {
+        Ok(rows) => Some(rows),
+        Err(_fault) => None,
+    }
+}
+
+/// Sources with their setmap and the distances of their platforms.
+#[derive(Drop)]
+struct Counted {
+    files: FileRows,
+    setmap: Setmap,
+    pairs: Fractions,
+}
+
+fn counted_of(alloc: Global, case: &Case) -> Result<Counted, NoMemory> {
     let files = files_of(alloc, case.sources)?;
     let setmap = setmap_of(alloc, case.platforms.len(), files.as_slice())?;
     let pairs = distances_of(alloc, &setmap)?;
-    Ok(Figures {
-        platforms: Texts::new(alloc),
+    Ok(Counted {
         files,
         setmap,
         pairs,
-        groups: TextLists::from_vec(Vec::new(alloc)),
-        databases: AbsentRows::from_vec(Vec::new(alloc)),
-        idle: IdleRows::from_vec(Vec::new(alloc)),
-        notes: NoteRows::from_vec(Vec::new(alloc)),
     })
 }
 
+/// What reports list.
+#[derive(Drop)]
+struct Told {
+    platforms: Texts,
+    groups: TextLists,
+    notes: NoteRows,
+}
+
+fn told_of(alloc: Global, case: &Case) -> Result<Told, NoMemory> {
+    Ok(Told {
+        platforms: texts_of(alloc, case.platforms)?,
+        groups: groups_of(alloc, case.groups)?,
+        notes: notes_of(alloc, case.notes)?,
+    })
+}
+
+fn joined(alloc: Global, counted: Counted, told: Told, rows: Option<Rows>) -> Figures {
+    Figures {
+        platforms: told.platforms,
+        files: counted.files,
+        setmap: counted.setmap,
+        pairs: counted.pairs,
+        groups: told.groups,
+        rows,
+        databases: AbsentRows::from_vec(Vec::new(alloc)),
+        idle: IdleRows::from_vec(Vec::new(alloc)),
+        notes: told.notes,
+    }
+}
+
 fn figures_of(alloc: Global, case: &Case) -> Result<Figures, NoMemory> {
-    let mut figures = counted_of(alloc, case)?;
-    figures.platforms = texts_of(alloc, case.platforms)?;
-    figures.groups = groups_of(alloc, case.groups)?;
-    figures.notes = notes_of(alloc, case.notes)?;
-    Ok(figures)
+    let counted = counted_of(alloc, case)?;
+    let told = told_of(alloc, case)?;
+    Ok(joined(alloc, counted, told, rows_of(alloc, case.measurements)))
 }
 
 /// Whether figures print as a text.
@@ -333,19 +438,28 @@ fn idle_rows(alloc: Global) -> Result<IdleRows, NoMemory> {
 }
 
 /// Figures with those two, and nothing else.
-fn idle_figures(alloc: Global) -> Result<Figures, NoMemory> {
-    let mut figures = counted_of(alloc, &CASES[8])?;
-    figures.databases = absent_rows(alloc)?;
-    figures.idle = idle_rows(alloc)?;
-    Ok(figures)
+fn idle_figures(databases: AbsentRows, idle: IdleRows, alloc: Global) -> Figures {
+    Figures {
+        platforms: Texts::new(alloc),
+        files: FileRows::from_vec(Vec::new(alloc)),
+        setmap: Setmap::new(alloc, 0),
+        pairs: Fractions::new(alloc),
+        groups: TextLists::from_vec(Vec::new(alloc)),
+        rows: None,
+        databases,
+        idle,
+        notes: NoteRows::from_vec(Vec::new(alloc)),
+    }
 }
 
 /// Whether what makes no command is printed.
 fn idle_entries_print(alloc: Global) -> Result<bool, NoMemory> {
+    let databases = absent_rows(alloc)?;
+    let figures = idle_figures(databases, idle_rows(alloc)?, alloc);
     prints(
         alloc,
         Kind::Notes,
-        &idle_figures(alloc)?,
+        &figures,
         b"database gpu gpu.json absent\ncommand 3 cpu outside\ncommand 12 cpu unsupported\n",
     )
 }
@@ -356,15 +470,25 @@ fn idle_entries_are_printed(rt: HostRuntime) -> Result<(), Fail> {
     Ok(())
 }
 
-fn kinds_are_read() -> bool {
-    Kind::read(b"summary") == Some(Kind::Summary)
-        && Kind::read(b"notes") == Some(Kind::Notes)
-        && Kind::read(b"Notes").is_none()
-        && Kind::read(b"cascade").is_none()
-        && Kind::read(b"").is_none()
-}
+/// The names of kinds, and names that no kind has.
+const KINDS: [(&[u8], Option<Kind>); 12] = [
+    (b"summary", Some(Kind::Summary)),
+    (b"files", Some(Kind::Files)),
+    (b"clustering", Some(Kind::Clustering)),
+    (b"duplicates", Some(Kind::Duplicates)),
+    (b"efficiency", Some(Kind::Efficiency)),
+    (b"cascade", Some(Kind::Cascade)),
+    (b"portability", Some(Kind::Portability)),
+    (b"navigation", Some(Kind::Navigation)),
+    (b"notes", Some(Kind::Notes)),
+    (b"Notes", None),
+    (b"note", None),
+    (b"", None),
+];
 
 #[test]
 fn kinds_have_names(rt: HostRuntime) {
-    assert!(rt; kinds_are_read());
+    for (at, (name, kind)) in KINDS.iter().enumerate() {
+        assert!(rt; Kind::read(*name) == *kind, "{at}");
+    }
 }

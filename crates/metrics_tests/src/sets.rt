@@ -1,14 +1,11 @@
 //! Setmaps and coverage, worked by hand.
-use cb_lines::{Lines, Span};
+use crate::made::{Spans, add_file, lines_of, used_of};
 use cb_paths::NoMemory;
 use cb_sets::{PLATFORM_LIMIT, PlatformSet, Setmap, average, coverage};
 use std::alloc::Global;
 use std::test::Fail;
 
 fn is_shared<T: Send + Sync>() {}
-
-/// Lines by their spans, each its first and last line.
-type Spans = &'static [(u32, u32)];
 
 /// A file: its counted lines, and those that each platform uses.
 struct File {
@@ -25,9 +22,6 @@ struct Case {
     coverage: Option<u64>,
     average: Option<u64>,
 }
-
-/// The number of lines that a setmap stays below.
-const MOST: u64 = 4_294_967_296;
 
 /// The grid value of 1.
 const ALL: u64 = 1_000_000_000_000;
@@ -126,31 +120,9 @@ const CASES: [Case; 6] = [
     },
 ];
 
-fn lines_of(alloc: Global, spans: &[(u32, u32)]) -> Result<Lines, NoMemory> {
-    let mut lines = Lines::new(alloc);
-    for (first, last) in spans {
-        lines.add_span(Span {
-            first: *first,
-            last: *last,
-        })?;
-    }
-    Ok(lines)
-}
-
-/// Adds a file, if it has as many platforms as the setmap and no more lines than fit.
-fn add_lines(map: &mut Setmap, counted: &Lines, used: &[Lines]) -> Result<(), NoMemory> {
-    if used.len() != map.platforms() as usize || counted.count() >= MOST - map.total() {
-        return Ok(());
-    }
-    map.add_file(counted, used)
-}
-
 fn add(alloc: Global, map: &mut Setmap, file: &File) -> Result<(), NoMemory> {
-    let mut used = Vec::new(alloc);
-    for spans in file.used {
-        used.push(lines_of(alloc, *spans)?)?;
-    }
-    add_lines(map, &lines_of(alloc, file.counted)?, used.as_slice())
+    let used = used_of(alloc, file.used)?;
+    add_file(map, &lines_of(alloc, file.counted)?, used.as_slice())
 }
 
 fn setmap_of(alloc: Global, platforms: u32, files: &[File]) -> Result<Setmap, NoMemory> {
@@ -201,16 +173,24 @@ fn setmaps_are_those_of_their_files(rt: HostRuntime) -> Result<(), Fail> {
     Ok(())
 }
 
-/// The total, what some platform uses, what a platform uses, and what two use both and either, of 32 platforms:
-/// platform p uses the lines from p on, up to 40, and line 50 is used by none.
-fn figures(alloc: Global) -> Result<[u64; 8], NoMemory> {
-    let counted = lines_of(alloc, &[(1, 40), (50, 50)])?;
+/// The setmap of 32 platforms, of which platform p uses the lines from p on, up to 40; line 50 is used by none.
+fn many(alloc: Global) -> Result<Setmap, NoMemory> {
     let mut used = Vec::new(alloc);
     for platform in 0..PLATFORM_LIMIT {
         used.push(lines_of(alloc, &[(platform + 1, 40)])?)?;
     }
     let mut map = Setmap::new(alloc, PLATFORM_LIMIT);
-    add_lines(&mut map, &counted, used.as_slice())?;
+    add_file(
+        &mut map,
+        &lines_of(alloc, &[(1, 40), (50, 50)])?,
+        used.as_slice(),
+    )?;
+    Ok(map)
+}
+
+/// The total, what some platform uses, what a platform uses, and what two use both and either, of those platforms.
+fn figures(alloc: Global) -> Result<[u64; 8], NoMemory> {
+    let map = many(alloc)?;
     Ok([
         map.total(),
         map.used(),
