@@ -46,7 +46,15 @@ fn add_problem(
     let names = rows.applications(alloc, problem)?;
     let applications = names.as_slice();
     for at in 0..applications.len() {
-        add_run(text, alloc, report, pairs, rows, problem, applications[at].as_slice())?;
+        add_run(
+            text,
+            alloc,
+            report,
+            pairs,
+            rows,
+            problem,
+            applications[at].as_slice(),
+        )?;
     }
     Ok(())
 }
