@@ -104,80 +104,71 @@ fn give(alloc: Global, words: &[u8], wanted: &[u8]) -> Result<bool, NoMemory> {
     make(alloc, file.as_slice(), b"/w", text.as_slice())
 }
 
+/// Words, and what they give.
+const OPTIONS: [(&[u8], &[u8]); 20] = [
+    // No words, and no options: the first word is the compiler, whatever it looks like.
+    (b"", b"work /w/b\n"),
+    (b"cc", b"work /w/b\n"),
+    (b"-DA -DB", b"define B\nwork /w/b\n"),
+    (b"-D A", b"work /w/b\n"),
+    // Definitions, with more bytes and with the next word, in one list. The word stands as it is.
+    (
+        b"cc -DA -UB -D C=1 -U D -DA",
+        b"define A\nundef B\ndefine C=1\nundef D\ndefine A\nwork /w/b\n",
+    ),
+    (
+        b"cc -D -DA -U '' -DF(x)=x",
+        b"define -DA\nundef \ndefine F(x)=x\nwork /w/b\n",
+    ),
+    (b"cc '-DA=1\\n2'", b"define A=1\n2\nwork /w/b\n"),
+    // Folders: those of -isystem come behind those of -I, and each is read from the directory.
+    (
+        b"cc -isystem s -Ii -iquote q -I j -isystem/t -iquoter",
+        b"work /w/b\nquote /w/b/q\nquote /w/b/r\nangle /w/b/i\nangle /w/b/j\nangle /w/b/s\nangle /t\n",
+    ),
+    (
+        b"cc -I.. -I../../.. -I. -I /w/./c/ -Id -Id",
+        b"work /w/b\nangle /w\nangle /\nangle /w/b\nangle /w/c\nangle /w/b/d\nangle /w/b/d\n",
+    ),
+    (b"cc -I ''", b"work /w/b\nangle /w/b\n"),
+    // A folder that is refused is passed over.
+    (
+        b"cc -I'a\\u0001' -DA -Ib",
+        b"define A\nwork /w/b\nangle /w/b/b\n",
+    ),
+    // Forced files.
+    (
+        b"cc -include a.h -include ../b.h",
+        b"work /w/b\nforced a.h\nforced ../b.h\n",
+    ),
+    (b"cc -includea.h -include", b"work /w/b\n"),
+    // Options whose next word is passed over too.
+    (
+        b"cc -o -DA -x -DB -MF -DC -MT -DD -MQ -DE -idirafter -DF -DG",
+        b"define G\nwork /w/b\n",
+    ),
+    (
+        b"cc -Xclang -DA -Xcompiler -DB -Xlinker -DC -Xpreprocessor -DD -Xassembler -DE -DF",
+        b"define F\nwork /w/b\n",
+    ),
+    // Any other word is passed over alone.
+    (
+        b"cc -oa.o -DA -MD -DB -c a.c -DC -idirafterd -DD --include -DE",
+        b"define A\ndefine B\ndefine C\ndefine D\ndefine E\nwork /w/b\n",
+    ),
+    (
+        b"cc -isysroot -DA -O3 -d -DB",
+        b"define A\ndefine B\nwork /w/b\n",
+    ),
+    // An option that is last and lacks its word.
+    (b"cc -DA -D", b"define A\nwork /w/b\n"),
+    (b"cc -DA -isystem", b"define A\nwork /w/b\n"),
+    (b"cc -DA -o", b"define A\nwork /w/b\n"),
+];
+
 #[test]
 fn options_are_read(rt: HostRuntime) -> Result<(), Fail> {
-    for (words, wanted) in [
-        // No words, and no options: the first word is the compiler, whatever it looks like.
-        (b"".as_slice(), b"work /w/b\n".as_slice()),
-        (b"cc".as_slice(), b"work /w/b\n".as_slice()),
-        (b"-DA -DB".as_slice(), b"define B\nwork /w/b\n".as_slice()),
-        (b"-D A".as_slice(), b"work /w/b\n".as_slice()),
-        // Definitions, with more bytes and with the next word, in one list. The word stands as it is.
-        (
-            b"cc -DA -UB -D C=1 -U D -DA".as_slice(),
-            b"define A\nundef B\ndefine C=1\nundef D\ndefine A\nwork /w/b\n".as_slice(),
-        ),
-        (
-            b"cc -D -DA -U '' -DF(x)=x".as_slice(),
-            b"define -DA\nundef \ndefine F(x)=x\nwork /w/b\n".as_slice(),
-        ),
-        (
-            b"cc '-DA=1\\n2'".as_slice(),
-            b"define A=1\n2\nwork /w/b\n".as_slice(),
-        ),
-        // Folders: those of -isystem come behind those of -I, and each is read from the directory.
-        (
-            b"cc -isystem s -Ii -iquote q -I j -isystem/t -iquoter".as_slice(),
-            b"work /w/b\nquote /w/b/q\nquote /w/b/r\nangle /w/b/i\nangle /w/b/j\nangle /w/b/s\nangle /t\n".as_slice(),
-        ),
-        (
-            b"cc -I.. -I../../.. -I. -I /w/./c/ -Id -Id".as_slice(),
-            b"work /w/b\nangle /w\nangle /\nangle /w/b\nangle /w/c\nangle /w/b/d\nangle /w/b/d\n".as_slice(),
-        ),
-        (
-            b"cc -I ''".as_slice(),
-            b"work /w/b\nangle /w/b\n".as_slice(),
-        ),
-        // A folder that is refused is passed over.
-        (
-            b"cc -I'a\\u0001' -DA -Ib".as_slice(),
-            b"define A\nwork /w/b\nangle /w/b/b\n".as_slice(),
-        ),
-        // Forced files.
-        (
-            b"cc -include a.h -include ../b.h".as_slice(),
-            b"work /w/b\nforced a.h\nforced ../b.h\n".as_slice(),
-        ),
-        (
-            b"cc -includea.h -include".as_slice(),
-            b"work /w/b\n".as_slice(),
-        ),
-        // Options whose next word is passed over too.
-        (
-            b"cc -o -DA -x -DB -MF -DC -MT -DD -MQ -DE -idirafter -DF -DG".as_slice(),
-            b"define G\nwork /w/b\n".as_slice(),
-        ),
-        (
-            b"cc -Xclang -DA -Xcompiler -DB -Xlinker -DC -Xpreprocessor -DD -Xassembler -DE -DF".as_slice(),
-            b"define F\nwork /w/b\n".as_slice(),
-        ),
-        // Any other word is passed over alone.
-        (
-            b"cc -oa.o -DA -MD -DB -c a.c -DC -idirafterd -DD --include -DE".as_slice(),
-            b"define A\ndefine B\ndefine C\ndefine D\ndefine E\nwork /w/b\n".as_slice(),
-        ),
-        (
-            b"cc -isysroot -DA -O3 -d -DB".as_slice(),
-            b"define A\ndefine B\nwork /w/b\n".as_slice(),
-        ),
-        // An option that is last and lacks its word.
-        (b"cc -DA -D".as_slice(), b"define A\nwork /w/b\n".as_slice()),
-        (
-            b"cc -DA -isystem".as_slice(),
-            b"define A\nwork /w/b\n".as_slice(),
-        ),
-        (b"cc -DA -o".as_slice(), b"define A\nwork /w/b\n".as_slice()),
-    ] {
+    for (words, wanted) in OPTIONS {
         assert!(rt;
             give(rt.alloc(), words, wanted)?,
             "{}",
@@ -187,67 +178,70 @@ fn options_are_read(rt: HostRuntime) -> Result<(), Fail> {
     Ok(())
 }
 
+/// Files, roots, and what their entries make.
+const SOURCES: [(&[u8], &[u8], &[u8]); 11] = [
+    // The worked example: a source below the root, compiled in a folder below it.
+    (
+        b"[{\"directory\":\"/w/build\",\"file\":\"/w/src/m.cpp\",\"command\":\"/usr/bin/c++ \\\"-DNAME=\\\\\\\"a b\\\\\\\"\\\" -I/w/inc -isystem /opt/x/include -O3 -o t/m.cpp.o -c /w/src/m.cpp\"}]",
+        b"/w",
+        b"main src/m.cpp\nin C++\ndefine NAME=\"a b\"\nwork /w/build\nangle /w/inc\nangle /opt/x/include\nroot /w\n",
+    ),
+    (
+        b"[{\"directory\":\"/w\",\"file\":\"x.f90\",\"command\":\"\"}]",
+        b"/w",
+        b"unsupported\n",
+    ),
+    (
+        b"[{\"directory\":\"/w\",\"file\":\"x\",\"command\":\"\"}]",
+        b"/w",
+        b"unsupported\n",
+    ),
+    (
+        b"[{\"directory\":\"/w\",\"file\":\"/tmp/a.c\",\"command\":\"\"}]",
+        b"/w",
+        b"outside\n",
+    ),
+    (
+        b"[{\"directory\":\"/w\",\"file\":\"/tmp/x.f90\",\"command\":\"\"}]",
+        b"/w",
+        b"outside\n",
+    ),
+    (
+        b"[{\"directory\":\"/w\",\"file\":\"../a.c\",\"command\":\"\"}]",
+        b"/w",
+        b"outside\n",
+    ),
+    (
+        b"[{\"directory\":\"/w\",\"file\":\"\",\"command\":\"\"}]",
+        b"/w",
+        b"outside\n",
+    ),
+    (
+        b"[{\"directory\":\"/w\\u0001\",\"file\":\"/w/a.c\",\"command\":\"\"}]",
+        b"/w",
+        b"outside\n",
+    ),
+    (
+        b"[{\"directory\":\"/w\",\"file\":\"a\\u007f.c\",\"command\":\"\"}]",
+        b"/w",
+        b"outside\n",
+    ),
+    // An empty directory is the root, and a relative one is read from it.
+    (
+        b"[{\"directory\":\"\",\"file\":\"a.c\",\"command\":\"\"}]",
+        b"/w",
+        b"main a.c\nin C\nwork /w\nroot /w\n",
+    ),
+    (
+        b"[{\"directory\":\"../v\",\"file\":\"../w/./a.cu\",\"arguments\":[]}]",
+        b"/w",
+        b"main a.cu\nin C++\nwork /v\nroot /w\n",
+    ),
+];
+
 #[test]
 fn sources_are_placed(rt: HostRuntime) -> Result<(), Fail> {
-    for (file, root, wanted) in [
-        // The worked example: a source below the root, compiled in a folder below it.
-        (
-            b"[{\"directory\":\"/w/build\",\"file\":\"/w/src/m.cpp\",\"command\":\"/usr/bin/c++ \\\"-DNAME=\\\\\\\"a b\\\\\\\"\\\" -I/w/inc -isystem /opt/x/include -O3 -o t/m.cpp.o -c /w/src/m.cpp\"}]".as_slice(),
-            b"/w".as_slice(),
-            b"main src/m.cpp\nin C++\ndefine NAME=\"a b\"\nwork /w/build\nangle /w/inc\nangle /opt/x/include\nroot /w\n".as_slice(),
-        ),
-        (
-            b"[{\"directory\":\"/w\",\"file\":\"x.f90\",\"command\":\"\"}]".as_slice(),
-            b"/w".as_slice(),
-            b"unsupported\n".as_slice(),
-        ),
-        (
-            b"[{\"directory\":\"/w\",\"file\":\"x\",\"command\":\"\"}]".as_slice(),
-            b"/w".as_slice(),
-            b"unsupported\n".as_slice(),
-        ),
-        (
-            b"[{\"directory\":\"/w\",\"file\":\"/tmp/a.c\",\"command\":\"\"}]".as_slice(),
-            b"/w".as_slice(),
-            b"outside\n".as_slice(),
-        ),
-        (
-            b"[{\"directory\":\"/w\",\"file\":\"/tmp/x.f90\",\"command\":\"\"}]".as_slice(),
-            b"/w".as_slice(),
-            b"outside\n".as_slice(),
-        ),
-        (
-            b"[{\"directory\":\"/w\",\"file\":\"../a.c\",\"command\":\"\"}]".as_slice(),
-            b"/w".as_slice(),
-            b"outside\n".as_slice(),
-        ),
-        (
-            b"[{\"directory\":\"/w\",\"file\":\"\",\"command\":\"\"}]".as_slice(),
-            b"/w".as_slice(),
-            b"outside\n".as_slice(),
-        ),
-        (
-            b"[{\"directory\":\"/w\\u0001\",\"file\":\"/w/a.c\",\"command\":\"\"}]".as_slice(),
-            b"/w".as_slice(),
-            b"outside\n".as_slice(),
-        ),
-        (
-            b"[{\"directory\":\"/w\",\"file\":\"a\\u007f.c\",\"command\":\"\"}]".as_slice(),
-            b"/w".as_slice(),
-            b"outside\n".as_slice(),
-        ),
-        // An empty directory is the root, and a relative one is read from it.
-        (
-            b"[{\"directory\":\"\",\"file\":\"a.c\",\"command\":\"\"}]".as_slice(),
-            b"/w".as_slice(),
-            b"main a.c\nin C\nwork /w\nroot /w\n".as_slice(),
-        ),
-        (
-            b"[{\"directory\":\"../v\",\"file\":\"../w/./a.cu\",\"arguments\":[]}]".as_slice(),
-            b"/w".as_slice(),
-            b"main a.cu\nin C++\nwork /v\nroot /w\n".as_slice(),
-        ),
-    ] {
+    for (file, root, wanted) in SOURCES {
         assert!(rt;
             make(rt.alloc(), file, root, wanted)?,
             "{}",

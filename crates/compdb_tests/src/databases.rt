@@ -21,143 +21,138 @@ fn place_of(bad: BadDatabase) -> u32 {
     }
 }
 
+/// Files, the number of their first fault, and its entry; 0 and the number of entries where there is none.
+const FAULTY: [(&[u8], u32, u32); 38] = [
+    // No JSON: nothing, a byte order mark, an end that lacks, a text behind the value, bytes that are no UTF-8.
+    (b"", 1, 0),
+    (b"\xef\xbb\xbf[]", 1, 0),
+    (b"[", 1, 0),
+    (b"[] []", 1, 0),
+    (b"[\"\xff\"]", 1, 0),
+    (b"[{\"directory\":1}", 1, 0),
+    // No array.
+    (b"{}", 2, 0),
+    (b"null", 2, 0),
+    (b"\"[]\"", 2, 0),
+    // No entry at all is no fault.
+    (b" [ ]\n", 0, 0),
+    // No object.
+    (b"[1]", 3, 0),
+    (b"[[]]", 3, 0),
+    (
+        b"[{\"directory\":\"/\",\"file\":\"a.c\",\"command\":\"\"},null,{}]",
+        3,
+        1,
+    ),
+    // Each field missing, and of another type.
+    (b"[{}]", 4, 0),
+    (b"[{\"file\":\"a.c\",\"command\":\"cc\"}]", 4, 0),
+    (
+        b"[{\"directory\":null,\"file\":\"a.c\",\"command\":\"cc\"}]",
+        4,
+        0,
+    ),
+    (b"[{\"directory\":\"/\",\"command\":\"cc\"}]", 4, 0),
+    (
+        b"[{\"directory\":\"/\",\"file\":[\"a.c\"],\"command\":\"cc\"}]",
+        4,
+        0,
+    ),
+    (b"[{\"directory\":\"/\",\"file\":\"a.c\"}]", 4, 0),
+    (
+        b"[{\"directory\":\"/\",\"file\":\"a.c\",\"command\":[\"cc\"]}]",
+        4,
+        0,
+    ),
+    (
+        b"[{\"directory\":\"/\",\"file\":\"a.c\",\"arguments\":\"cc\"}]",
+        4,
+        0,
+    ),
+    (
+        b"[{\"directory\":\"/\",\"file\":\"a.c\",\"arguments\":[\"cc\",1]}]",
+        4,
+        0,
+    ),
+    // Where `arguments` stands, `command` is not looked at, whatever either of them is.
+    (
+        b"[{\"directory\":\"/\",\"file\":\"a.c\",\"arguments\":null,\"command\":\"cc\"}]",
+        4,
+        0,
+    ),
+    (
+        b"[{\"directory\":\"/\",\"file\":\"a.c\",\"arguments\":[],\"command\":\"cc 'a\"}]",
+        0,
+        1,
+    ),
+    (
+        b"[{\"directory\":\"/\",\"file\":\"a.c\",\"arguments\":[\"cc 'a\"],\"command\":1}]",
+        0,
+        1,
+    ),
+    // A quote without an end.
+    (
+        b"[{\"directory\":\"/\",\"file\":\"a.c\",\"command\":\"cc 'a\"}]",
+        5,
+        0,
+    ),
+    (
+        b"[{\"directory\":\"/\",\"file\":\"a.c\",\"command\":\"cc \\\"a\"}]",
+        5,
+        0,
+    ),
+    (
+        b"[{\"directory\":\"/\",\"file\":\"a.c\",\"command\":\"cc \\\"a\\\\\"}]",
+        5,
+        0,
+    ),
+    (
+        b"[{\"directory\":\"/\",\"file\":\"a.c\",\"command\":\"cc \\\"a\\\\\\\"\"}]",
+        5,
+        0,
+    ),
+    // In one entry a field comes before a quote; of two entries the first one decides.
+    (b"[{\"directory\":\"/\",\"command\":\"cc 'a\"}]", 4, 0),
+    (
+        b"[{\"directory\":\"/\",\"file\":\"a.c\",\"command\":\"cc 'a\"},1]",
+        5,
+        0,
+    ),
+    (
+        b"[{\"directory\":\"/\",\"file\":\"a.c\",\"command\":\"cc 'a\"},{}]",
+        5,
+        0,
+    ),
+    (
+        b"[{},{\"directory\":\"/\",\"file\":\"a.c\",\"command\":\"cc 'a\"}]",
+        4,
+        0,
+    ),
+    (b"[{},1]", 4, 0),
+    (b"[1,{}]", 3, 0),
+    // Of a key that stands twice the last value counts, also where the first has another type.
+    (
+        b"[{\"directory\":1,\"file\":\"a.c\",\"command\":\"cc\",\"directory\":\"/\"}]",
+        0,
+        1,
+    ),
+    (
+        b"[{\"directory\":\"/\",\"file\":\"a.c\",\"command\":\"cc\",\"directory\":1}]",
+        4,
+        0,
+    ),
+    // Other keys are passed over.
+    (
+        b"[{\"directory\":\"/\",\"file\":\"a.c\",\"command\":\"cc\",\"output\":7,\"x\":{}}]",
+        0,
+        1,
+    ),
+];
+
 #[test]
 fn the_first_fault_is_told(rt: HostRuntime) -> Result<(), Fail> {
     one_database();
-    for (file, number, place) in [
-        // No JSON: nothing, a byte order mark, an end that lacks, a text behind the value, bytes that are no UTF-8.
-        (b"".as_slice(), 1, 0),
-        (b"\xef\xbb\xbf[]".as_slice(), 1, 0),
-        (b"[".as_slice(), 1, 0),
-        (b"[] []".as_slice(), 1, 0),
-        (b"[\"\xff\"]".as_slice(), 1, 0),
-        (b"[{\"directory\":1}".as_slice(), 1, 0),
-        // No array.
-        (b"{}".as_slice(), 2, 0),
-        (b"null".as_slice(), 2, 0),
-        (b"\"[]\"".as_slice(), 2, 0),
-        // No entry at all is no fault.
-        (b" [ ]\n".as_slice(), 0, 0),
-        // No object.
-        (b"[1]".as_slice(), 3, 0),
-        (b"[[]]".as_slice(), 3, 0),
-        (
-            b"[{\"directory\":\"/\",\"file\":\"a.c\",\"command\":\"\"},null,{}]".as_slice(),
-            3,
-            1,
-        ),
-        // Each field missing, and of another type.
-        (b"[{}]".as_slice(), 4, 0),
-        (b"[{\"file\":\"a.c\",\"command\":\"cc\"}]".as_slice(), 4, 0),
-        (
-            b"[{\"directory\":null,\"file\":\"a.c\",\"command\":\"cc\"}]".as_slice(),
-            4,
-            0,
-        ),
-        (
-            b"[{\"directory\":\"/\",\"command\":\"cc\"}]".as_slice(),
-            4,
-            0,
-        ),
-        (
-            b"[{\"directory\":\"/\",\"file\":[\"a.c\"],\"command\":\"cc\"}]".as_slice(),
-            4,
-            0,
-        ),
-        (b"[{\"directory\":\"/\",\"file\":\"a.c\"}]".as_slice(), 4, 0),
-        (
-            b"[{\"directory\":\"/\",\"file\":\"a.c\",\"command\":[\"cc\"]}]".as_slice(),
-            4,
-            0,
-        ),
-        (
-            b"[{\"directory\":\"/\",\"file\":\"a.c\",\"arguments\":\"cc\"}]".as_slice(),
-            4,
-            0,
-        ),
-        (
-            b"[{\"directory\":\"/\",\"file\":\"a.c\",\"arguments\":[\"cc\",1]}]".as_slice(),
-            4,
-            0,
-        ),
-        // Where `arguments` stands, `command` is not looked at, whatever either of them is.
-        (
-            b"[{\"directory\":\"/\",\"file\":\"a.c\",\"arguments\":null,\"command\":\"cc\"}]".as_slice(),
-            4,
-            0,
-        ),
-        (
-            b"[{\"directory\":\"/\",\"file\":\"a.c\",\"arguments\":[],\"command\":\"cc 'a\"}]".as_slice(),
-            0,
-            1,
-        ),
-        (
-            b"[{\"directory\":\"/\",\"file\":\"a.c\",\"arguments\":[\"cc 'a\"],\"command\":1}]".as_slice(),
-            0,
-            1,
-        ),
-        // A quote without an end.
-        (
-            b"[{\"directory\":\"/\",\"file\":\"a.c\",\"command\":\"cc 'a\"}]".as_slice(),
-            5,
-            0,
-        ),
-        (
-            b"[{\"directory\":\"/\",\"file\":\"a.c\",\"command\":\"cc \\\"a\"}]".as_slice(),
-            5,
-            0,
-        ),
-        (
-            b"[{\"directory\":\"/\",\"file\":\"a.c\",\"command\":\"cc \\\"a\\\\\"}]".as_slice(),
-            5,
-            0,
-        ),
-        (
-            b"[{\"directory\":\"/\",\"file\":\"a.c\",\"command\":\"cc \\\"a\\\\\\\"\"}]".as_slice(),
-            5,
-            0,
-        ),
-        // In one entry a field comes before a quote; of two entries the first one decides.
-        (
-            b"[{\"directory\":\"/\",\"command\":\"cc 'a\"}]".as_slice(),
-            4,
-            0,
-        ),
-        (
-            b"[{\"directory\":\"/\",\"file\":\"a.c\",\"command\":\"cc 'a\"},1]".as_slice(),
-            5,
-            0,
-        ),
-        (
-            b"[{\"directory\":\"/\",\"file\":\"a.c\",\"command\":\"cc 'a\"},{}]".as_slice(),
-            5,
-            0,
-        ),
-        (
-            b"[{},{\"directory\":\"/\",\"file\":\"a.c\",\"command\":\"cc 'a\"}]".as_slice(),
-            4,
-            0,
-        ),
-        (b"[{},1]".as_slice(), 4, 0),
-        (b"[1,{}]".as_slice(), 3, 0),
-        // Of a key that stands twice the last value counts, also where the first has another type.
-        (
-            b"[{\"directory\":1,\"file\":\"a.c\",\"command\":\"cc\",\"directory\":\"/\"}]".as_slice(),
-            0,
-            1,
-        ),
-        (
-            b"[{\"directory\":\"/\",\"file\":\"a.c\",\"command\":\"cc\",\"directory\":1}]".as_slice(),
-            4,
-            0,
-        ),
-        // Other keys are passed over.
-        (
-            b"[{\"directory\":\"/\",\"file\":\"a.c\",\"command\":\"cc\",\"output\":7,\"x\":{}}]".as_slice(),
-            0,
-            1,
-        ),
-    ] {
+    for (file, number, place) in FAULTY {
         assert!(rt;
             outcome(rt.alloc(), file)? == (number, place),
             "{}",
@@ -187,16 +182,19 @@ fn outcome_of_many(
 
 const ITEM: &[u8] = b"{\"directory\":\"/\",\"file\":\"a.c\",\"arguments\":[]}";
 
+/// So many items, the item, the end of the file, and what it comes to.
+const MANY: [(u32, &[u8], &[u8], u32, u32); 5] = [
+    (20_000, ITEM, b"]", 0, 20_000),
+    (20_001, ITEM, b"]", 6, 0),
+    (20_000, b"1", b"]", 3, 0),
+    (20_001, b"1", b"]", 6, 0),
+    (20_001, b"1", b"", 1, 0),
+];
+
 /// The limit is told behind the reading as JSON, and before any entry is looked at.
 #[test]
 fn entries_are_limited(rt: HostRuntime) -> Result<(), Fail> {
-    for (count, item, end, number, place) in [
-        (20_000, ITEM, b"]".as_slice(), 0, 20_000),
-        (20_001, ITEM, b"]".as_slice(), 6, 0),
-        (20_000, b"1".as_slice(), b"]".as_slice(), 3, 0),
-        (20_001, b"1".as_slice(), b"]".as_slice(), 6, 0),
-        (20_001, b"1".as_slice(), b"".as_slice(), 1, 0),
-    ] {
+    for (count, item, end, number, place) in MANY {
         assert!(rt;
             outcome_of_many(rt.alloc(), count, item, end)? == (number, place),
             "{count} items, {number}"
@@ -248,52 +246,37 @@ fn splits_into(alloc: Global, command: &[u8], wanted: &[u8]) -> Result<bool, NoM
     }
 }
 
+/// Commands, as they are written in JSON, and their words.
+const SPLIT: [(&[u8], &[u8]); 16] = [
+    // Gaps: space, HT, LF and CR, and no others.
+    (b"cc -c a.c", b"<cc><-c><a.c>"),
+    (b"  cc \\t -c\\na.c\\r\\n", b"<cc><-c><a.c>"),
+    (b"a\\u000bb\\fc\\u00a0d", b"<a\x0bb\x0cc\xc2\xa0d>"),
+    (b"", b""),
+    (b" \\n", b""),
+    // Quotes stand anywhere in a word, and end none.
+    (b"\\\"a b\\\"c'd e'f g", b"<a bcd ef><g>"),
+    (b"-DA=\\\"\\\" '' \\\"\\\" b", b"<-DA=><><><b>"),
+    (b"'\\\"' \\\"'\\\"", b"<\"><'>"),
+    (b"'a\\nb' \\\"c\\td\\\"", b"<a\nb><c\td>"),
+    // A backslash gives the next byte outside quotes and inside double ones, and is itself inside single ones.
+    (
+        b"a\\\\ b \\\\' \\\\\\\" \\\\\\\\ \\\\n",
+        b"<a b><'><\"><\\><n>",
+    ),
+    (b"\\\"a\\\\\\\"b\\\\\\\\c\\\\nd\\\"", b"<a\"b\\cnd>"),
+    (b"'a\\\\b' '\\\\'", b"<a\\b><\\>"),
+    (b"a\\\\\\nb", b"<a\nb>"),
+    // A backslash at the very end is itself.
+    (b"a\\\\", b"<a\\>"),
+    (b"a \\\\", b"<a><\\>"),
+    (b"''\\\\", b"<\\>"),
+];
+
 #[test]
 fn commands_are_split(rt: HostRuntime) -> Result<(), Fail> {
     one_splitting();
-    for (command, words) in [
-        // Gaps: space, HT, LF and CR, and no others.
-        (b"cc -c a.c".as_slice(), b"<cc><-c><a.c>".as_slice()),
-        (
-            b"  cc \\t -c\\na.c\\r\\n".as_slice(),
-            b"<cc><-c><a.c>".as_slice(),
-        ),
-        (
-            b"a\\u000bb\\fc\\u00a0d".as_slice(),
-            b"<a\x0bb\x0cc\xc2\xa0d>".as_slice(),
-        ),
-        (b"".as_slice(), b"".as_slice()),
-        (b" \\n".as_slice(), b"".as_slice()),
-        // Quotes stand anywhere in a word, and end none.
-        (
-            b"\\\"a b\\\"c'd e'f g".as_slice(),
-            b"<a bcd ef><g>".as_slice(),
-        ),
-        (
-            b"-DA=\\\"\\\" '' \\\"\\\" b".as_slice(),
-            b"<-DA=><><><b>".as_slice(),
-        ),
-        (b"'\\\"' \\\"'\\\"".as_slice(), b"<\"><'>".as_slice()),
-        (
-            b"'a\\nb' \\\"c\\td\\\"".as_slice(),
-            b"<a\nb><c\td>".as_slice(),
-        ),
-        // A backslash gives the next byte outside quotes and inside double ones, and is itself inside single ones.
-        (
-            b"a\\\\ b \\\\' \\\\\\\" \\\\\\\\ \\\\n".as_slice(),
-            b"<a b><'><\"><\\><n>".as_slice(),
-        ),
-        (
-            b"\\\"a\\\\\\\"b\\\\\\\\c\\\\nd\\\"".as_slice(),
-            b"<a\"b\\cnd>".as_slice(),
-        ),
-        (b"'a\\\\b' '\\\\'".as_slice(), b"<a\\b><\\>".as_slice()),
-        (b"a\\\\\\nb".as_slice(), b"<a\nb>".as_slice()),
-        // A backslash at the very end is itself.
-        (b"a\\\\".as_slice(), b"<a\\>".as_slice()),
-        (b"a \\\\".as_slice(), b"<a><\\>".as_slice()),
-        (b"''\\\\".as_slice(), b"<\\>".as_slice()),
-    ] {
+    for (command, words) in SPLIT {
         assert!(rt;
             splits_into(rt.alloc(), command, words)?,
             "{}",
@@ -331,27 +314,16 @@ fn is_text(text: &Bytes, wanted: &[u8]) -> bool {
 const TWICE: &[u8] =
     b"[{\"file\":\"a.c\",\"directory\":\"/w\",\"arguments\":[\"cc\",\"\",\"-D\\u00e4 b\"]},{\"file\":\"a.c\",\"directory\":\"\",\"command\":\"cc -c a.c\"}]";
 
+/// Places, and the directory, the file and the words of the entry there.
+const TOLD: [(usize, Option<(&[u8], &[u8], &[u8])>); 3] = [
+    (0, Some((b"/w", b"a.c", b"<cc><><-D\xc3\xa4 b>"))),
+    (1, Some((b"", b"a.c", b"<cc><-c><a.c>"))),
+    (2, None),
+];
+
 #[test]
 fn entries_stand_in_their_order(rt: HostRuntime) -> Result<(), Fail> {
-    for (place, wanted) in [
-        (
-            0,
-            Some((
-                b"/w".as_slice(),
-                b"a.c".as_slice(),
-                b"<cc><><-D\xc3\xa4 b>".as_slice(),
-            )),
-        ),
-        (
-            1,
-            Some((
-                b"".as_slice(),
-                b"a.c".as_slice(),
-                b"<cc><-c><a.c>".as_slice(),
-            )),
-        ),
-        (2, None),
-    ] {
+    for (place, wanted) in TOLD {
         assert!(rt;
             has_entry(rt.alloc(), TWICE, place, wanted)?,
             "entry {place}"

@@ -140,14 +140,17 @@ angle /opt/x/include
 root /home/u/heat
 "#;
 
+/// Who wrote a database, the file, and what its entries make.
+const BUILDS: [(&str, &[u8], &[u8]); 4] = [
+    ("CMake with Ninja", CMAKE_NINJA, CMAKE_MADE),
+    ("CMake with Make", CMAKE_MAKE, CMAKE_MADE),
+    ("Meson", MESON, MESON_MADE),
+    ("Bear", BEAR, BEAR_MADE),
+];
+
 #[test]
 fn databases_of_build_systems_are_read(rt: HostRuntime) -> Result<(), Fail> {
-    for (name, file, wanted) in [
-        ("CMake with Ninja", CMAKE_NINJA, CMAKE_MADE),
-        ("CMake with Make", CMAKE_MAKE, CMAKE_MADE),
-        ("Meson", MESON, MESON_MADE),
-        ("Bear", BEAR, BEAR_MADE),
-    ] {
+    for (name, file, wanted) in BUILDS {
         assert!(rt; make(rt.alloc(), file, b"/home/u/heat", wanted)?, "{name}");
     }
     Ok(())
