@@ -90,8 +90,8 @@ impl Macro {
         self.parts.as_slice()
     }
 
-    /// Whether the parameter in this place, from 0, stands somewhere outside `#` and `##`, so that its argument is replaced
-    /// first.
+    /// Whether the parameter in this place, from 0, stands somewhere outside `#` and `##`, so that its argument is
+    /// replaced first.
     pub fn is_shown(&self, place: usize) -> bool
         requires { place < length (all_parameters self.now) }
         ensures { result ≡ is_shown place (parts self.now) }
@@ -99,8 +99,8 @@ impl Macro {
         self.uses[place].is_shown
     }
 
-    /// Whether the parameter in this place, from 0, stands somewhere beside `#` or `##`, so that its argument is wanted as it
-    /// is written.
+    /// Whether the parameter in this place, from 0, stands somewhere beside `#` or `##`, so that its argument is
+    /// wanted as it is written.
     pub fn is_raw(&self, place: usize) -> bool
         requires { place < length (all_parameters self.now) }
         ensures { result ≡ is_raw place (parts self.now) }
@@ -108,8 +108,8 @@ impl Macro {
         self.uses[place].is_raw
     }
 
-    /// Whether another macro has the same definition. White space between the tokens of the replacement list counts, and
-    /// that before its first token does not. It takes no memory.
+    /// Whether another macro has the same definition. White space between the tokens of the replacement list counts,
+    /// and that before its first token does not. It takes no memory.
     pub fn is_same(&self, other: &Macro) -> bool
         ensures { IsTrue result ↔ (self.now ≡ other.now) }
     {

@@ -46,7 +46,8 @@ pub(crate) fn parameter_place(names: &Names, token: &Token) -> Option<usize>
     }
 }
 
-/// The place of the parameter that `#` turns into a string, where these tokens begin with both in a function-like macro.
+/// The place of the parameter that `#` turns into a string, where these tokens begin with both in a function-like
+/// macro.
 fn quoted_place(is_function: bool, names: &Names, tokens: &[Token]) -> Option<usize>
     ensures { result ≡ quoted_front is_function names.now tokens.now }
 {

@@ -11,8 +11,8 @@ use indexmap::IndexMap;
 use std::alloc::Global;
 use std::marker::Model;
 
-/// The macros that are defined, which contracts see as the list of their names with their definitions. A name is looked up by
-/// its hash.
+/// The macros that are defined, which contracts see as the list of their names with their definitions. A name is
+/// looked up by its hash.
 #[derive(Drop)]
 pub struct Macros {
     table: IndexMap<Vec<u8>, Macro>,
@@ -37,8 +37,8 @@ impl Macros {
         }
     }
 
-    /// Defines a name, and answers whether a different definition stood. Where memory runs out it is `NoMemory`, and nothing
-    /// has changed.
+    /// Defines a name, and answers whether a different definition stood. Where memory runs out it is `NoMemory`, and
+    /// nothing has changed.
     pub fn define(&mut self, alloc: Global, defined: Defined) -> Result<bool, NoMemory>
         ensures different { IfOk result (λ different. IsChange (found self.old defined.name) defined.body different) }
         ensures defined { OnOk result ((name : List ℕ) → found self.new name ≡ (if bytes_eq name defined.name then Some defined.body else found self.old name)) }
@@ -76,8 +76,8 @@ impl Macros {
         self.table.get(name)
     }
 
-    /// The place of a name, from 0, where it has a definition. Places stay until a name is defined or undefined. It takes no
-    /// memory.
+    /// The place of a name, from 0, where it has a definition. Places stay until a name is defined or undefined. It
+    /// takes no memory.
     pub fn place_of(&self, name: &[u8]) -> Option<usize>
         ensures place { MatchOption result (found_at self.now name.now ≡ None) (λ place. place < length self.now) }
         ensures found { MatchOption result (found_at self.now name.now ≡ None) (λ place. IsSomeAnd (slice_get self.now place) (λ e. found_at self.now name.now ≡ Some (place, e.1))) }

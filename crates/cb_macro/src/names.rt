@@ -8,7 +8,8 @@ use indexmap::IndexSet;
 use std::alloc::Global;
 use std::marker::Model;
 
-/// Names of which none stands twice, which contracts see as the list of them. The place of a name is looked up by its hash.
+/// Names of which none stands twice, which contracts see as the list of them. The place of a name is looked up by its
+/// hash.
 #[derive(Drop)]
 pub(crate) struct Names {
     set: IndexSet<Vec<u8>>,

@@ -100,7 +100,8 @@ pub(crate) fn read_parameters(alloc: Global, tokens: &[Token]) -> Result<Paramet
     Err(DefineFault::Bad)
 }
 
-/// The names with which a replacement list speaks of arguments. `Bad` tells that a name stands twice or is `__VA_ARGS__`.
+/// The names with which a replacement list speaks of arguments. `Bad` tells that a name stands twice or is
+/// `__VA_ARGS__`.
 pub(crate) fn all_names(
     alloc: Global,
     names: &[Bytes],

@@ -6,8 +6,8 @@ ghost use Rattle.cb_macro.specs.Definitions.{undefines};
 use crate::signs::may_name;
 use cb_tokens::Token;
 
-/// The name that the tokens after `undef` undefine. None comes exactly where the name is missing, or is `defined` or `__VA_ARGS__`;
-/// tokens behind it do not matter. It takes no memory.
+/// The name that the tokens after `undef` undefine. None comes exactly where the name is missing, or is `defined` or
+/// `__VA_ARGS__`; tokens behind it do not matter. It takes no memory.
 #[tactic(auto, unfolding(crate::specs::Definitions::undefines))]
 pub fn undef_name(tokens: &[Token]) -> Option<&[u8]>
     ensures { option_copied result ≡ undefines tokens.now }

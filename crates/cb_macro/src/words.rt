@@ -72,12 +72,12 @@ fn tokens_of_first(lexed: &Lexed) -> &[Token]
     lexed.tokens(0)
 }
 
-/// What a word after `-D` defines. The word is cut at its first LF; its first `=` becomes a space, and where it has none a space
-/// and `1` stand behind it; the tokens of that text are read as those behind `#define`. So `-DA` defines `A` as `1`, and `-DA=` as
-/// nothing.
+/// What a word after `-D` defines. The word is cut at its first LF; its first `=` becomes a space, and where it has
+/// none a space and `1` stand behind it; the tokens of that text are read as those behind `#define`. So `-DA` defines
+/// `A` as `1`, and `-DA=` as nothing.
 ///
-/// `Bad` comes exactly where they are no definition, or where a block comment in the text has no end. Where memory is wanting it
-/// may be `NoMemory`.
+/// `Bad` comes exactly where they are no definition, or where a block comment in the text has no end. Where memory is
+/// wanting it may be `NoMemory`.
 pub fn define_word(alloc: Global, word: &[u8]) -> Result<Defined, DefineFault>
     ensures defined { IfOk result (λ defined. WordDefines word.now (Some (defined.name, defined.body))) }
     ensures bad { result ≡ Err DefineFault.Bad → WordDefines word.now None }
@@ -89,8 +89,8 @@ pub fn define_word(alloc: Global, word: &[u8]) -> Result<Defined, DefineFault>
     }
 }
 
-/// The name that a word after `-U` undefines. The word is cut at its first LF, and its tokens are read as those behind `#undef`.
-/// None comes exactly where they name no macro, or where a block comment in the word has no end.
+/// The name that a word after `-U` undefines. The word is cut at its first LF, and its tokens are read as those
+/// behind `#undef`. None comes exactly where they name no macro, or where a block comment in the word has no end.
 pub fn undef_word(alloc: Global, word: &[u8]) -> Result<Option<Bytes>, NoMemory>
     ensures { IfOk result (λ name. WordUndefines word.now name) }
 {

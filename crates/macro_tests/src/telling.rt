@@ -13,8 +13,8 @@ fn digit(number: usize) -> u8 {
     }
 }
 
-/// Adds a part: a space where white space stands before it, `~` where `##` joins it to the part before, and then its bytes, `$` with
-/// the place of a parameter, or `#` with the place of one that `#` turns into a string.
+/// Adds a part: a space where white space stands before it, `~` where `##` joins it to the part before, and then its
+/// bytes, `$` with the place of a parameter, or `#` with the place of one that `#` turns into a string.
 fn tell_part(text: &mut Vec<u8>, part: &Part) -> Result<(), NoMemory> {
     if part.spaced {
         text.push(b' ')?;
@@ -44,8 +44,8 @@ fn tell_uses(text: &mut Vec<u8>, body: &Macro) -> Result<(), NoMemory> {
     Ok(())
 }
 
-/// Adds a definition: its name; for a function-like macro the uses of its parameters in parentheses, with `...` for a variadic one; and
-/// `=` with its parts.
+/// Adds a definition: its name; for a function-like macro the uses of its parameters in parentheses, with `...` for a
+/// variadic one; and `=` with its parts.
 fn tell(text: &mut Vec<u8>, defined: &Defined) -> Result<(), NoMemory> {
     text.extend_from_slice(defined.name.as_slice())?;
     if defined.body.is_function() {
