@@ -1,19 +1,17 @@
 -- Lists of tokens and arguments that are put in.
 use Rattle.std.proofs.Common.{◌≡◌, ℕ, zero, suc, ◌+◌, ◌<◌, ◌≤◌, ◌||◌, Bool, true, false, List, [], ◌∷◌, ◌++◌, length, map, take, drop, get_or, refl, sym, ◌∙◌, ap, subst, arith, append_assoc}
-use Rattle.std.proofs.Math.Path.{fun_ext}
 use Rattle.std.proofs.lemmas.List.{append-nil, map_push, map-append, take_more, take-append-drop, drop_more}
 use Rattle.cb_paste.specs.declared.argument.Argument.{Argument}
 use Rattle.cb_paste.specs.declared.part.Part.{Part}
 use Rattle.cb_paste.specs.declared.work_token.WorkToken.{WorkToken}
 use Rattle.cb_paste.specs.declared.slots.Slot.{Slot}
-use Rattle.cb_paste.specs.Sets.{hides, Extends}
+use Rattle.cb_paste.specs.Sets.{Extends}
 use Rattle.cb_paste.specs.Shades.{Shaded, seen, spaced_as, AreIn}
-use Rattle.cb_paste.specs.Joins.{Put, Real, glue, onto_last, reals}
+use Rattle.cb_paste.specs.Joins.{Put, Real, glue, onto_last}
 use Rattle.cb_paste.specs.Puts.{Given, seen_argument, AreArgumentsIn, shape_puts, next_glued, put_one, put_from}
-use Rattle.cb_paste.specs.inner.Slots.{token_count, seen_slot, as_slot, IsSlotIn, AreSlotsIn}
+use Rattle.cb_paste.specs.inner.Slots.{token_count, seen_slot, as_slot, AreSlotsIn}
 use Rattle.cb_paste.specs.inner.Given.{tokens_puts}
-use Rattle.cb_paste.proofs.Arenas.{hides_none}
-use Rattle.cb_paste.proofs.Standing.{token_count-append, slots_kept, seen_all_kept, seen_as_slots}
+use Rattle.cb_paste.proofs.Standing.{token_count-append, slots_kept, seen_all_kept, seen_as_slots, in_more}
 use Rattle.cb_paste.proofs.Counts.{onto_push, put_more}
 
 pub as_more : (old : List Slot) (ts : List WorkToken) (i : ℕ) (t : WorkToken) → i < length ts → t ≡ get_or ts i t → (old ++ map as_slot (take i ts)) ++ as_slot t ∷ [] ≡ old ++ map as_slot (take (i + 1) ts)
@@ -46,6 +44,15 @@ pub rest_put : {a b : List (List ℕ)} → Extends a b → (mid : List Slot) (do
 rest_put {a} {b} e mid done glued spaced t ts o is =
     map-append (seen_slot b) mid (map as_slot ts)
     ∙ (rw (is, seen_as_slots b ts, seen_all_kept e ts o) (sym (put_more done glued (Real (spaced_as spaced (seen a t))) (map Real (map (seen a) ts)))))
+
+pub argument_in : (count : ℕ) (args : List Argument) (i : ℕ) (x : Argument) → i < length args → x ≡ get_or args i x → AreArgumentsIn count args → AreIn count x.raw.items × AreIn count x.expanded.items
+argument_in count [] i x h e o = absurd (omega arith)
+argument_in count (a ∷ rest) zero x h e o = subst (λ y. AreIn count y.raw.items × AreIn count y.expanded.items) (sym e) (o.0, o.1)
+argument_in count (a ∷ rest) (suc i) x h e o = argument_in count rest i x (omega arith) e o.2
+
+pub arguments_more : (m n : ℕ) → m ≤ n → (args : List Argument) → AreArgumentsIn m args → AreArgumentsIn n args
+arguments_more m n le [] o = tt
+arguments_more m n le (x ∷ xs) o = (in_more m n le x.raw.items o.0, in_more m n le x.expanded.items o.1, arguments_more m n le xs o.2)
 
 pub arguments_kept : {a b : List (List ℕ)} → Extends a b → (args : List Argument) → AreArgumentsIn (length a) args → map (seen_argument b) args ≡ map (seen_argument a) args
 arguments_kept e [] o = refl

@@ -6,3 +6,5 @@ pub mod Spelling
 pub mod Counts
 pub mod Copies
 pub mod Stacks
+pub mod Names
+pub mod Placed

@@ -1,7 +1,7 @@
 -- What the sets of an arena have, by its nodes.
-use Rattle.std.proofs.Common.{◌≡◌, ℕ, zero, suc, ◌+◌, ◌-◌, ◌*◌, ◌/◌, ◌%◌, ◌==◌, ◌&&◌, ◌||◌, ◌<◌, ◌≤◌, if◌then◌else◌, Bool, true, false, List, [], ◌∷◌, ◌++◌, length, map, get_or, refl, sym, subst, ◌∙◌, ap, inl, inr, arith, append_assoc, length-append, add-suc}
+use Rattle.std.proofs.Common.{◌≡◌, ℕ, zero, suc, ◌+◌, ◌-◌, ◌*◌, ◌/◌, ◌%◌, ◌==◌, ◌&&◌, ◌||◌, ◌<◌, ◌≤◌, Bool, true, false, List, [], ◌∷◌, ◌++◌, length, map, get_or, refl, sym, subst, ◌∙◌, ap, inl, inr, arith, append_assoc}
 use Rattle.std.specs.List.{list_any}
-use Rattle.std.proofs.lemmas.List.{get_or_append_left, get_or_at, get_or_past, length_push}
+use Rattle.std.proofs.lemmas.List.{get_or_append_left, get_or_at, length_push}
 use Rattle.std.proofs.lemmas.List.Folds.{list_any-append}
 use Rattle.std.proofs.lemmas.Bool.{cases_eq, eq-eqb, ne_eqb}
 use Rattle.std.proofs.lemmas.Bool.Decides.{same_from_decides, Decides-like, Decides-eqb}
@@ -64,7 +64,7 @@ at_even sets c n ne e =
 set_of_has : (sets : List (List ℕ)) (c : Cell) (n : ℕ) → list_any (λ p. n == p) (set_of sets c) ≡ in_cell sets c n
 set_of_has sets c n =
     elim (cases_eq n 0) [
-      inl e ↦ at_zero sets c n e
+      | inl e ↦ at_zero sets c n e
       | inr ne ↦ elim (cases_eq (n % 2) 1) [ inl e ↦ at_odd sets c n ne e | inr e ↦ at_even sets c n ne e ]
     ]
 

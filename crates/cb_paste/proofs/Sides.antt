@@ -1,5 +1,5 @@
 -- What a node has, by what lies below it.
-use Rattle.std.proofs.Common.{◌≡◌, ℕ, ◌+◌, ◌-◌, ◌*◌, ◌/◌, ◌%◌, ◌==◌, ◌&&◌, ◌||◌, ◌<◌, ◌≤◌, if◌then◌else◌, Bool, true, false, List, length, refl, sym, subst, ◌∙◌, ap, inl, inr, arith}
+use Rattle.std.proofs.Common.{◌≡◌, ℕ, ◌-◌, ◌/◌, ◌%◌, ◌==◌, ◌||◌, ◌≤◌, Bool, true, false, List, length, sym, subst, ◌∙◌, ap, inl, inr, arith}
 use Rattle.std.proofs.lemmas.Bool.{cases_eq, eq-eqb, ne_eqb, cond-true, cond-false}
 use Rattle.cb_paste.specs.declared.hides.Cell.{Cell}
 use Rattle.cb_paste.specs.Sets.{hides, Extends}
@@ -40,10 +40,10 @@ pub none_has : (sets : List (List ℕ)) (c : Cell) → c ≡ record { here = fal
 none_has sets c e n =
     hides_none sets n
     ∙ elim (cases_eq n 0) [
-      inl z ↦ sym (in_cell_here sets c n z ∙ ap (λ d. d.here) e)
+      | inl z ↦ sym (in_cell_here sets c n z ∙ ap (λ d. d.here) e)
       | inr nz ↦ sym
-        (in_cell_side sets c n nz
-        ∙ (ap (λ s. hides sets s ((n - 1) / 2)) (no_side c n (ap (λ d. d.odd) e) (ap (λ d. d.even) e)) ∙ hides_none sets ((n - 1) / 2)))
+          (in_cell_side sets c n nz
+          ∙ (ap (λ s. hides sets s ((n - 1) / 2)) (no_side c n (ap (λ d. d.odd) e) (ap (λ d. d.even) e)) ∙ hides_none sets ((n - 1) / 2)))
     ]
 
 -- the node with the place 0
@@ -51,7 +51,7 @@ pub zero_has : (sets : List (List ℕ)) (c : Cell) (place n : ℕ) → place ≡
 unfolding in_cell side_of
 zero_has sets c place n z =
     elim (cases_eq n 0) [
-      inl e ↦ rw (eq-eqb n 0 e, eq-eqb n place (omega arith))
+      | inl e ↦ rw (eq-eqb n 0 e, eq-eqb n place (omega arith))
       | inr e ↦ rw (ne_eqb n 0 e, ne_eqb n place (λ f. omega arith))
     ]
 
@@ -74,19 +74,19 @@ other_side {a} {b} e c o place below n nz new ne =
 new_here : (c : Cell) (place below : ℕ) → (with_side c place below).here ≡ c.here
 new_here c place below =
     elim (cases_eq (place % 2) 1) [
-      inl h ↦ ap (λ d. d.here) (with_odd c place below h)
+      | inl h ↦ ap (λ d. d.here) (with_odd c place below h)
       | inr h ↦ ap (λ d. d.here) (with_even c place below h)
     ]
 
 side_has : {a b : List (List ℕ)} → Extends a b → (c : Cell) → IsOver (length a) c → (place below : ℕ) → (place ≡ 0 → ⊥) → ((k : ℕ) → hides b below k ≡ ((k == (place - 1) / 2) || hides a (side_of c place) k)) → (n : ℕ) → (n ≡ 0 → ⊥) → in_cell b (with_side c place below) n ≡ ((n == place) || in_cell a c n)
 side_has {a} {b} e c o place below pz grown n nz =
     elim (cases_eq (place % 2) 1) [
-      inl p ↦ elim (cases_eq (n % 2) 1) [
-        inl q ↦ same_side a b c place below n grown nz pz (side_odd c place p ∙ sym (side_odd c n q)) (ap (λ d. side_of d n) (with_odd c place below p) ∙ side_odd _ n q) (omega arith)
+      | inl p ↦ elim (cases_eq (n % 2) 1) [
+        | inl q ↦ same_side a b c place below n grown nz pz (side_odd c place p ∙ sym (side_odd c n q)) (ap (λ d. side_of d n) (with_odd c place below p) ∙ side_odd _ n q) (omega arith)
         | inr q ↦ other_side e c o place below n nz (ap (λ d. side_of d n) (with_odd c place below p) ∙ (side_even _ n q ∙ sym (side_even c n q))) (λ f. q (ap (λ k. k % 2) f ∙ p))
       ]
       | inr p ↦ elim (cases_eq (n % 2) 1) [
-        inl q ↦ other_side e c o place below n nz (ap (λ d. side_of d n) (with_even c place below p) ∙ (side_odd _ n q ∙ sym (side_odd c n q))) (λ f. p (ap (λ k. k % 2) (sym f) ∙ q))
+        | inl q ↦ other_side e c o place below n nz (ap (λ d. side_of d n) (with_even c place below p) ∙ (side_odd _ n q ∙ sym (side_odd c n q))) (λ f. p (ap (λ k. k % 2) (sym f) ∙ q))
         | inr q ↦ same_side a b c place below n grown nz pz (side_even c place p ∙ sym (side_even c n q)) (ap (λ d. side_of d n) (with_even c place below p) ∙ side_even _ n q) (omega arith)
       ]
     ]
@@ -94,15 +94,15 @@ side_has {a} {b} e c o place below pz grown n nz =
 pub with_has : {a b : List (List ℕ)} → Extends a b → (c : Cell) → IsOver (length a) c → (place below : ℕ) → (place ≡ 0 → ⊥) → ((k : ℕ) → hides b below k ≡ ((k == (place - 1) / 2) || hides a (side_of c place) k)) → (n : ℕ) → in_cell b (with_side c place below) n ≡ ((n == place) || in_cell a c n)
 with_has {a} {b} e c o place below pz grown n =
     elim (cases_eq n 0) [
-      inl z ↦ in_cell_here b (with_side c place below) n z
-        ∙ (new_here c place below ∙ rw (ne_eqb n place (λ f. pz (sym f ∙ z)), in_cell_here a c n z))
+      | inl z ↦ in_cell_here b (with_side c place below) n z
+          ∙ (new_here c place below ∙ rw (ne_eqb n place (λ f. pz (sym f ∙ z)), in_cell_here a c n z))
       | inr nz ↦ side_has e c o place below pz grown n nz
     ]
 
 pub with_side_over : (count : ℕ) (c : Cell) (place below : ℕ) → IsOver count c → below ≤ count → IsOver count (with_side c place below)
 with_side_over count c place below o le =
     elim (cases_eq (place % 2) 1) [
-      inl h ↦ subst (λ d. IsOver count d) (sym (with_odd c place below h)) (record { odd = le; even = o.even })
+      | inl h ↦ subst (λ d. IsOver count d) (sym (with_odd c place below h)) (record { odd = le; even = o.even })
       | inr h ↦ subst (λ d. IsOver count d) (sym (with_even c place below h)) (record { odd = o.odd; even = le })
     ]
 
@@ -111,10 +111,10 @@ pub combined : {a m b : List (List ℕ)} (f : Bool → Bool → Bool) → Extend
 unfolding in_cell side_of
 combined {a} {m} {b} f e g l r ol or odd even le odds evens n =
     elim (cases_eq n 0) [
-      inl z ↦ rw (eq-eqb n 0 z)
+      | inl z ↦ rw (eq-eqb n 0 z)
       | inr nz ↦ elim (cases_eq (n % 2) 1) [
-        inl p ↦ rw (ne_eqb n 0 nz, eq-eqb (n % 2) 1 p) (hides_kept g odd le ((n - 1) / 2) ∙ odds ((n - 1) / 2))
+        | inl p ↦ rw (ne_eqb n 0 nz, eq-eqb (n % 2) 1 p) (hides_kept g odd le ((n - 1) / 2) ∙ odds ((n - 1) / 2))
         | inr p ↦ rw (ne_eqb n 0 nz, ne_eqb (n % 2) 1 p)
-          (evens ((n - 1) / 2) ∙ rw (hides_kept e l.even ol.even ((n - 1) / 2), hides_kept e r.even or.even ((n - 1) / 2)))
+            (evens ((n - 1) / 2) ∙ rw (hides_kept e l.even ol.even ((n - 1) / 2), hides_kept e r.even or.even ((n - 1) / 2)))
       ]
     ]

@@ -1,13 +1,13 @@
 -- Tokens on the stack, in the order in which they are read.
-use Rattle.std.proofs.Common.{◌≡◌, ℕ, ◌≤◌, ◌<◌, ◌||◌, Bool, true, false, List, [], ◌∷◌, ◌++◌, length, map, reverse, refl, sym, ◌∙◌, ap, subst, arith, append_assoc}
+use Rattle.std.proofs.Common.{◌≡◌, ℕ, ◌≤◌, Bool, List, [], ◌∷◌, ◌++◌, length, map, reverse, refl, sym, ◌∙◌, ap, append_assoc}
 use Rattle.std.proofs.Math.Path.{fun_ext}
-use Rattle.std.proofs.lemmas.List.{map_push, map-append, reverse-append}
+use Rattle.std.proofs.lemmas.List.{append-nil, map_push, map-append, reverse-append}
 use Rattle.cb_paste.specs.declared.work_token.WorkToken.{WorkToken}
 use Rattle.cb_paste.specs.declared.slots.Slot.{Slot}
 use Rattle.cb_paste.specs.Sets.{hides, Extends}
 use Rattle.cb_paste.specs.Shades.{Shaded, seen, waiting, shaded, all_shaded, first_spaced, AreIn}
-use Rattle.cb_paste.specs.Joins.{Put, real_of, reals}
-use Rattle.cb_paste.specs.inner.Slots.{seen_slot, IsSlotIn, AreSlotsIn}
+use Rattle.cb_paste.specs.Joins.{real_of, reals}
+use Rattle.cb_paste.specs.inner.Slots.{seen_slot, IsSlotIn}
 use Rattle.cb_paste.proofs.Arenas.{hides_kept}
 use Rattle.cb_paste.proofs.Standing.{seen_all_kept, slot_kept}
 use Rattle.cb_paste.proofs.Counts.{reals-append}
@@ -30,7 +30,7 @@ pub hides_same : {a b : List (List ℕ)} → Extends a b → (i : ℕ) → i ≤
 hides_same e i h = fun_ext (hides_kept e i h)
 
 pub reals_push : (sets : List (List ℕ)) (ss : List Slot) (s : Slot) → reals (map (seen_slot sets) (ss ++ s ∷ [])) ≡ reals (map (seen_slot sets) ss) ++ real_of (seen_slot sets s)
-reals_push sets ss s = ap (λ l. reals l) (map_push (seen_slot sets) ss s) ∙ (reals-append (map (seen_slot sets) ss) (seen_slot sets s ∷ []) ∙ ?)
+reals_push sets ss s = ap (λ l. reals l) (map_push (seen_slot sets) ss s) ∙ (reals-append (map (seen_slot sets) ss) (seen_slot sets s ∷ []) ∙ ap (λ l. reals (map (seen_slot sets) ss) ++ l) (append-nil (real_of (seen_slot sets s))))
 
 -- the last of what stands went onto the stack
 pub stack_step : {a b : List (List ℕ)} → Extends a b → (extra : ℕ) → extra ≤ length a → (front : List Slot) (s : Slot) → IsSlotIn (length a) s → (old new : List Shaded) → new ≡ all_shaded (hides b extra) (real_of (seen_slot b s)) ++ old → all_shaded (hides a extra) (reals (map (seen_slot a) front)) ++ new ≡ all_shaded (hides a extra) (reals (map (seen_slot a) (front ++ s ∷ []))) ++ old

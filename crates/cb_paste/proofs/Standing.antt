@@ -1,15 +1,15 @@
 -- What stands while it may still be joined.
-use Rattle.std.proofs.Common.{◌≡◌, ℕ, ◌+◌, ◌≤◌, Bool, true, false, List, [], ◌∷◌, ◌++◌, length, map, refl, sym, ◌∙◌, ap, subst, arith, append_assoc}
+use Rattle.std.proofs.Common.{◌≡◌, ℕ, ◌+◌, ◌≤◌, List, [], ◌∷◌, ◌++◌, length, map, refl, ap, arith}
 use Rattle.std.proofs.Math.Path.{fun_ext}
 use Rattle.std.proofs.lemmas.Bool.{false≢true}
 use Rattle.cb_paste.specs.declared.work_token.WorkToken.{WorkToken}
 use Rattle.cb_paste.specs.declared.slots.Slot.{Slot}
 use Rattle.cb_paste.specs.declared.slots.Slot.TheVariants as slot
-use Rattle.cb_paste.specs.Sets.{hides, Extends}
-use Rattle.cb_paste.specs.Shades.{Shaded, seen, AreIn}
-use Rattle.cb_paste.specs.Joins.{Put, Mark, Real}
+use Rattle.cb_paste.specs.Sets.{Extends}
+use Rattle.cb_paste.specs.Shades.{seen, AreIn}
+use Rattle.cb_paste.specs.Joins.{Real}
 use Rattle.cb_paste.specs.inner.Slots.{token_count, seen_slot, as_slot, IsSlotIn, AreSlotsIn}
-use Rattle.cb_paste.proofs.Arenas.{hides_kept, extends_length}
+use Rattle.cb_paste.proofs.Arenas.{hides_kept}
 
 pub token_count-append : (xs ys : List Slot) → token_count (xs ++ ys) ≡ token_count xs + token_count ys
 token_count-append [] ys = omega arith

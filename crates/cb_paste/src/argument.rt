@@ -19,10 +19,11 @@ pub(crate) fn raw_of(arguments: &[Argument], i: usize) -> &[WorkToken]
     ensures tokens { (sets : List (List ℕ)) → map (seen sets) result.now ≡ (given_at (map (seen_argument sets) arguments.now) i).raw }
     ensures within { (count : ℕ) → AreArgumentsIn count arguments.now → AreIn count result.now }
 {
-    match arguments.get(i) {
-        None => &[],
-        Some(argument) => argument.raw.as_slice(),
+    if i >= arguments.len() {
+        return &[];
     }
+    let argument = &arguments[i];
+    argument.raw.as_slice()
 }
 
 /// The argument of a parameter after its own expansion; empty where there is none.
@@ -30,8 +31,9 @@ pub(crate) fn expanded_of(arguments: &[Argument], i: usize) -> &[WorkToken]
     ensures tokens { (sets : List (List ℕ)) → map (seen sets) result.now ≡ (given_at (map (seen_argument sets) arguments.now) i).expanded }
     ensures within { (count : ℕ) → AreArgumentsIn count arguments.now → AreIn count result.now }
 {
-    match arguments.get(i) {
-        None => &[],
-        Some(argument) => argument.expanded.as_slice(),
+    if i >= arguments.len() {
+        return &[];
     }
+    let argument = &arguments[i];
+    argument.expanded.as_slice()
 }

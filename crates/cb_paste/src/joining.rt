@@ -30,7 +30,11 @@ pub(crate) enum Glued {
 fn is_name_byte(byte: u8) -> bool
     ensures { result ≡ is_name_byte byte }
 {
-    byte.is_ascii_alphabetic() || byte == b'_' || byte == b'$' || byte >= 128 || byte.is_ascii_digit()
+    byte.is_ascii_alphabetic()
+        || byte == b'_'
+        || byte == b'$'
+        || byte >= 128
+        || byte.is_ascii_digit()
 }
 
 /// Whether all bytes are bytes of names.

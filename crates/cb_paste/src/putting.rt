@@ -1,5 +1,5 @@
 //! The parts of a replacement list are put in, one behind the other.
-ghost use Rattle.std.specs.Prelude.{◌≡◌, ◌<◌, ◌≤◌, ◌++◌, ◌∷◌, [], map, length, IfOk, OnOk};
+ghost use Rattle.std.specs.Prelude.{◌≡◌, ◌<◌, ◌≤◌, ◌++◌, ◌∷◌, [], false, map, length, IfOk, OnOk};
 ghost use Rattle.cb_paste.specs.Sets.{Extends};
 ghost use Rattle.cb_paste.specs.Shades.{seen, AreIn};
 ghost use Rattle.cb_paste.specs.Joins.{onto_last, reals};
@@ -93,7 +93,12 @@ fn put(
 }
 
 /// Puts copies of tokens behind what stands.
-fn put_tokens(alloc: Global, slots: &mut Slots, tokens: &[WorkToken], room: usize) -> Result<(), PasteFault>
+fn put_tokens(
+    alloc: Global,
+    slots: &mut Slots,
+    tokens: &[WorkToken],
+    room: usize,
+) -> Result<(), PasteFault>
     requires { token_count slots.old ≤ room }
     ensures put { OnOk result (slots.new ≡ slots.old ++ map as_slot tokens.now) }
     ensures fits { OnOk result (token_count slots.new ≤ room) }
@@ -161,7 +166,14 @@ fn put_argument(
         }
         None => {
             if beside {
-                put(alloc, arena, slots, part.glued, Slot::Mark(part.spaced), room)?;
+                put(
+                    alloc,
+                    arena,
+                    slots,
+                    part.glued,
+                    Slot::Mark(part.spaced),
+                    room,
+                )?;
                 return Ok(());
             }
             Ok(())

@@ -30,7 +30,7 @@ pub fn substitute(
     requires extra { site.hides ≤ length arena.old }
     ensures put { OnOk result (waiting arena.new stack.new.items
         ≡ all_shaded (hides arena.old site.hides) (puts (map (seen_argument arena.old) arguments.now) site.spaced parts.now)
-          ++ waiting arena.old stack.old.items) }
+        ++ waiting arena.old stack.old.items) }
     ensures count { IfOk result (λ count. count ≡ length (puts (map (seen_argument arena.old) arguments.now) site.spaced parts.now)) }
     ensures room { IfOk result (λ count. count ≤ site.room) }
     ensures long { result ≡ Err PasteFault.TooLong

@@ -1,4 +1,4 @@
-use Rattle.std.proofs.Common.{◌≡◌, ◌++◌, ◌∷◌, [], ap, arith}
+use Rattle.std.proofs.Common.{◌++◌, ◌∷◌, [], ap, arith}
 use Rattle.std.proofs.lemmas.Result.{err_from_is_err_and}
 use Rattle.cb_paste.specs.inner.Slots.{token_count}
 use Rattle.cb_paste.specs.inner.Glued.{glued_slots}

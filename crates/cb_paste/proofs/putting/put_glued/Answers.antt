@@ -1,8 +1,7 @@
-use Rattle.std.proofs.Common.{◌≡◌, ◌++◌, ◌∷◌, [], List, length, map, sym, subst, ◌∙◌, ap, arith}
+use Rattle.std.proofs.Common.{◌++◌, ◌∷◌, [], length, map, sym, subst, ◌∙◌, ap, arith}
 use Rattle.std.proofs.lemmas.Result.{err_from_is_err_and}
-use Rattle.cb_paste.specs.declared.slots.Slot.{Slot}
 use Rattle.cb_paste.specs.Joins.{onto_last, reals}
-use Rattle.cb_paste.specs.inner.Slots.{token_count, seen_slot, AreSlotsIn}
+use Rattle.cb_paste.specs.inner.Slots.{seen_slot, AreSlotsIn}
 use Rattle.cb_paste.specs.inner.Glued.{glued_slots}
 use Rattle.cb_paste.proofs.Arenas.{extends_length}
 use Rattle.cb_paste.proofs.Standing.{slots_in_back, slots_in_front, slots_in_append, slots_more}

@@ -1,4 +1,4 @@
-use Rattle.std.proofs.Common.{◌≡◌, ◌++◌, ◌∷◌, [], sym, ◌∙◌, ap}
+use Rattle.std.proofs.Common.{◌++◌, ◌∷◌, [], sym, ◌∙◌, ap}
 use Rattle.cb_paste.specs.Strings.{escaped}
 use Rattle.cb_paste.proofs.Spelling.{escaped_quote, escaped_backslash, escaped_other}
 use Rattle.cb_paste.proofs.quoting.push_escaped_byte.Goals as goal

@@ -1,4 +1,4 @@
-use Rattle.std.proofs.Common.{◌≡◌, ℕ, ◌||◌, false, sym, ◌∙◌, ap, arith}
+use Rattle.std.proofs.Common.{◌≡◌, ◌||◌, false, sym, ◌∙◌, ap, arith}
 use Rattle.cb_paste.specs.Sets.{hides}
 use Rattle.cb_paste.specs.inner.Nodes.{in_cell}
 use Rattle.cb_paste.proofs.Arenas.{hides_none, over_more}
@@ -20,10 +20,10 @@ returns-then-b-eq0-clause-places t c = λ n.
 pub returns-clause-places : goal.returns-clause-places
 returns-clause-places t c = λ n.
     let here : c.if-left.here ≡ (c.cell-left.result.here || c.cell-right.result.here) =
-        elim c.if-left.branch [
-          then-left w ↦ w.here-is ∙ (w.if-left.true ∙ sym (ap (λ v. v || c.cell-right.result.here) w.if-left.true))
-          | else-left w ↦ w.here-is ∙ sym (ap (λ v. v || c.cell-right.result.here) w.if-left.false)
-        ] in
+    elim c.if-left.branch [
+      | then-left w ↦ w.here-is ∙ (w.if-left.true ∙ sym (ap (λ v. v || c.cell-right.result.here) w.if-left.true))
+      | else-left w ↦ w.here-is ∙ sym (ap (λ v. v || c.cell-right.result.here) w.if-left.false)
+    ] in
     c.in_ok-made.ensures.places n
     ∙ (ap (λ h. in_cell c.either-2.new.self (record { here = h; odd = c.in_ok-odd.odd; even = c.in_ok-even.even }) n) here
     ∙ (combined (λ x y. x || y) c.in_ok-odd.ensures.kept c.in_ok-even.ensures.kept c.cell-left.result c.cell-right.result

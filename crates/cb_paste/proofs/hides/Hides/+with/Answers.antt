@@ -1,4 +1,4 @@
-use Rattle.std.proofs.Common.{◌≡◌, ◌==◌, ◌||◌, ◌/◌, ℕ, ◌-◌, sym, subst, ◌∙◌, ap, arith, length}
+use Rattle.std.proofs.Common.{◌==◌, ◌||◌, ◌/◌, ◌-◌, sym, subst, ◌∙◌, ap, arith, length}
 use Rattle.cb_paste.specs.Sets.{hides}
 use Rattle.cb_paste.specs.inner.Nodes.{in_cell, IsOver}
 use Rattle.cb_paste.proofs.Arenas.{side_le, extends_length, over_more}

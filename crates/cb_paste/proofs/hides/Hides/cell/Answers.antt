@@ -1,8 +1,6 @@
-use Rattle.std.proofs.Common.{◌≡◌, ℕ, ◌<◌, ◌-◌, length, refl, sym, subst, ◌∙◌, arith, ap}
-use Rattle.std.specs.Vec.{vec_len}
+use Rattle.std.proofs.Common.{◌≡◌, length, refl, subst, ◌∙◌, arith, ap}
 use Rattle.cb_paste.specs.Sets.{hides}
 use Rattle.cb_paste.specs.inner.Nodes.{in_cell}
-use Rattle.cb_paste.specs.inner.Cells.{sets_of}
 use Rattle.cb_paste.proofs.Nodes.{node_has, node_over, length_sets}
 use Rattle.cb_paste.proofs.Sides.{none_has}
 use Rattle.cb_paste.proofs.hides.Hides.cell.Goals as goal

@@ -1,6 +1,5 @@
-use Rattle.std.proofs.Common.{◌≡◌, ℕ, ◌-◌, ◌/◌, sym, ◌∙◌, arith, ap}
+use Rattle.std.proofs.Common.{◌-◌, ◌/◌, sym, ◌∙◌, arith, ap}
 use Rattle.cb_paste.specs.Sets.{hides}
-use Rattle.cb_paste.specs.inner.Nodes.{side_of}
 use Rattle.cb_paste.proofs.Arenas.{hides_none, side_le}
 use Rattle.cb_paste.proofs.Sides.{in_cell_here, in_cell_side}
 use Rattle.cb_paste.proofs.hides.Hides.has.Goals as goal
@@ -18,8 +17,8 @@ pub nodes-preserved : goal.nodes-preserved
 nodes-preserved c = record {
   within = omega (arith, c.side-node.ensures, side_le c.cell-cell.result (c.nodes.node - 1) c.nodes.rest c.cell-cell.ensures.below);
   same = ap (λ s. hides c.args.self.now s ((c.nodes.rest - 1) / 2)) c.side-node.ensures
-    ∙ (sym (in_cell_side c.args.self.now c.cell-cell.result c.nodes.rest c.if-rest-eq0.false)
-    ∙ (sym (c.cell-cell.ensures.places c.nodes.rest) ∙ c.nodes.invariant.same));
+      ∙ (sym (in_cell_side c.args.self.now c.cell-cell.result c.nodes.rest c.if-rest-eq0.false)
+      ∙ (sym (c.cell-cell.ensures.places c.nodes.rest) ∙ c.nodes.invariant.same));
 }
 
 pub returns : goal.returns

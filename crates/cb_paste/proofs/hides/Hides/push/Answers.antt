@@ -1,9 +1,6 @@
-use Rattle.std.proofs.Common.{◌≡◌, ℕ, ◌+◌, false, refl, sym, subst, ◌∙◌, arith, ap, rules, length}
+use Rattle.std.proofs.Common.{◌≡◌, ◌+◌, false, sym, subst, arith, ap, rules, length}
 use Rattle.std.proofs.lemmas.List.{length_push}
-use Rattle.cb_paste.specs.declared.hides.Cell.{Cell}
-use Rattle.cb_paste.specs.Sets.{hides, Extends}
-use Rattle.cb_paste.specs.inner.Nodes.{in_cell, IsOver}
-use Rattle.cb_paste.specs.inner.Cells.{sets_of, AreCells}
+use Rattle.cb_paste.specs.inner.Nodes.{IsOver}
 use Rattle.cb_paste.proofs.Nodes.{push_has, push_extends, cells_push, length_sets}
 use Rattle.cb_paste.proofs.Sides.{none_has}
 use Rattle.cb_paste.proofs.hides.Hides.push.Goals as goal

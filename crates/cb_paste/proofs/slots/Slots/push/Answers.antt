@@ -1,4 +1,4 @@
-use Rattle.std.proofs.Common.{◌≡◌, ◌++◌, ◌∷◌, [], ap, ◌∙◌, arith, ◌≤◌}
+use Rattle.std.proofs.Common.{◌∷◌, [], ap, arith}
 use Rattle.cb_paste.specs.inner.Slots.{token_count}
 use Rattle.cb_paste.proofs.Standing.{token_count-append, token_count_le}
 use Rattle.cb_paste.proofs.slots.Slots.push.Goals as goal
