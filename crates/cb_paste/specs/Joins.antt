@@ -10,11 +10,16 @@ pub data Put : Type 0 where
   Mark : Bool → Put
   Real : Shaded → Put
 
--- two tokens with the kind of the one that they make, which has the common part of their hide sets; both where they make none,
--- the right one without white space before it (6.10.3.3 paragraph 3; both is own; Prosser's algorithm, "glue")
+-- two tokens with the kind of the one that they make, which has the common part of their hide sets; both where they
+-- make none, the right one without white space before it (6.10.3.3 paragraph 3; both is own; Prosser's algorithm, "glue")
 abbrev pub joined_as : Shaded → Shaded → Option TokenKind → List Put
 joined_as t u (Some kind) =
-    Real (record { kind = kind; spaced = t.spaced; text = t.text ++ u.text; hides = λ place. t.hides place && u.hides place }) ∷ []
+    Real (record {
+      kind = kind;
+      spaced = t.spaced;
+      text = t.text ++ u.text;
+      hides = λ place. t.hides place && u.hides place;
+    }) ∷ []
 joined_as t u None = Real t ∷ Real (spaced_as false u) ∷ []
 
 -- a placemarker and a token make that token, and two of them make one (6.10.3.3 paragraph 3)

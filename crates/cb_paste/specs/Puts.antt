@@ -20,6 +20,10 @@ pub record Given : Type 0 where
 abbrev pub seen_argument : List (List ℕ) → Argument → Given
 seen_argument sets a = record { raw = map (seen sets) a.raw.items; expanded = map (seen sets) a.expanded.items }
 
+-- the arguments so (own)
+abbrev pub seen_arguments : List (List ℕ) → List Argument → List Given
+seen_arguments sets arguments = map (seen_argument sets) arguments
+
 -- the hide sets of the arguments' tokens stand in an arena of so many (own)
 abbrev pub AreArgumentsIn : ℕ → List Argument → Type 0
 AreArgumentsIn count [] = Unit {0}
@@ -62,8 +66,10 @@ put_one done false ms = done ++ ms
 -- the parts put in from the left, behind what stands (6.10.3.3 paragraph 3; from the left is own)
 abbrev pub put_from : List Given → List Put → List Part → List Put
 put_from gs done [] = done
-put_from gs done (p ∷ ps) = put_from gs (put_one done p.glued (shape_puts gs (p.glued || next_glued ps) p.spaced p.shape)) ps
+put_from gs done (p ∷ ps) =
+    put_from gs (put_one done p.glued (shape_puts gs (p.glued || next_glued ps) p.spaced p.shape)) ps
 
--- the tokens that a replacement list puts in for a name with such white space before it (6.10.3.1 to 6.10.3.3; white space is own)
+-- the tokens that a replacement list puts in for a name with such white space before it (6.10.3.1 to 6.10.3.3; white
+-- space is own)
 unfoldable pub puts : List Given → Bool → List Part → List Shaded
 puts gs spaced parts = first_spaced spaced (reals (put_from gs [] parts))

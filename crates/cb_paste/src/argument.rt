@@ -16,7 +16,8 @@ pub struct Argument {
 
 /// The argument of a parameter as written; empty where there is none.
 pub(crate) fn raw_of(arguments: &[Argument], i: usize) -> &[WorkToken]
-    ensures tokens { (sets : List (List ℕ)) → map (seen sets) result.now ≡ (given_at (map (seen_argument sets) arguments.now) i).raw }
+    ensures tokens { (sets : List (List ℕ)) → map (seen sets) result.now
+        ≡ (given_at (map (seen_argument sets) arguments.now) i).raw }
     ensures within { (count : ℕ) → AreArgumentsIn count arguments.now → AreIn count result.now }
 {
     if i >= arguments.len() {
@@ -28,7 +29,8 @@ pub(crate) fn raw_of(arguments: &[Argument], i: usize) -> &[WorkToken]
 
 /// The argument of a parameter after its own expansion; empty where there is none.
 pub(crate) fn expanded_of(arguments: &[Argument], i: usize) -> &[WorkToken]
-    ensures tokens { (sets : List (List ℕ)) → map (seen sets) result.now ≡ (given_at (map (seen_argument sets) arguments.now) i).expanded }
+    ensures tokens { (sets : List (List ℕ)) → map (seen sets) result.now
+        ≡ (given_at (map (seen_argument sets) arguments.now) i).expanded }
     ensures within { (count : ℕ) → AreArgumentsIn count arguments.now → AreIn count result.now }
 {
     if i >= arguments.len() {

@@ -7,8 +7,8 @@ use cb_paths::NoMemory;
 use std::alloc::Global;
 use std::marker::Model;
 
-/// A node of a tree of places, which is a set itself. Below `odd` lies the set of each k whose 2 k + 1 the node has, and below `even`
-/// that of each k whose 2 k + 2 it has.
+/// A node of a tree of places, which is a set itself. Below `odd` lies the set of each k whose 2 k + 1 the node has, and
+/// below `even` that of each k whose 2 k + 2 it has.
 #[derive(Clone, Copy, PartialEq, Eq)]
 pub(crate) struct Cell {
     /// Whether it has the place 0.
@@ -53,8 +53,8 @@ impl Cell {
     }
 }
 
-/// Sets of the places of macros. A set is a number: 0 is the empty one. Contracts see the list of the sets from 1 on, each a list of
-/// its places. Sets share the trees that they have in common, each at most 33 nodes deep.
+/// Sets of the places of macros. A set is a number: 0 is the empty one. Contracts see the list of the sets from 1 on, each
+/// a list of its places. Sets share the trees that they have in common, each at most 32 nodes deep.
 #[derive(Drop)]
 pub struct Hides {
     cells: Vec<Cell>,
@@ -147,7 +147,8 @@ impl Hides {
         false
     }
 
-    /// The set with one more place; the set itself where it has the place. It makes no more nodes than the place has bits, and one more.
+    /// The set with one more place; the set itself where it has the place. It makes no more nodes than the place has
+    /// bits, and one more.
     pub fn with(&mut self, set: u32, place: u32) -> Result<u32, NoMemory>
         requires { set ≤ length self.old }
         ensures places { IfOk result (λ s. (n : ℕ) → hides self.new s n ≡ ((n == place) || hides self.old set n)) }

@@ -6,7 +6,7 @@ ghost use Rattle.cb_tokens.specs.Kinds.{token_kind};
 ghost use Rattle.cb_paste.specs.Sets.{Extends};
 ghost use Rattle.cb_paste.specs.Shades.{seen};
 ghost use Rattle.cb_paste.specs.Joins.{glue, joined_as};
-ghost use Rattle.cb_paste.specs.inner.Slots.{seen_slot, IsSlotIn, AreSlotsIn};
+ghost use Rattle.cb_paste.specs.inner.Slots.{seen_slot, seen_slots, IsSlotIn, AreSlotsIn};
 ghost use Rattle.cb_paste.specs.inner.Glued.{glued_slots};
 
 use crate::hides::Hides;
@@ -46,7 +46,8 @@ fn are_name_bytes(bytes: &[u8]) -> bool
 
 /// Whether bytes that stand behind a token of such a form make no other form of it.
 fn goes_on(kind: TokenKind, bytes: &[u8]) -> bool
-    ensures { result ≡ true → (front : List ℕ) → token_kind front ≡ Some kind → token_kind (front ++ bytes.now) ≡ Some kind }
+    ensures { result ≡ true → (front : List ℕ) → token_kind front ≡ Some kind
+        → token_kind (front ++ bytes.now) ≡ Some kind }
 {
     match kind {
         TokenKind::Identifier => are_name_bytes(bytes),
@@ -55,8 +56,8 @@ fn goes_on(kind: TokenKind, bytes: &[u8]) -> bool
     }
 }
 
-/// The form of a text, where that of so many bytes at its front may be known: those are then not read again if the others are bytes
-/// of names.
+/// The form of a text, where that of so many bytes at its front may be known: these are then not read again if the
+/// others are bytes of names.
 fn kind_of(text: &[u8], len: usize, known: Option<TokenKind>) -> Option<TokenKind>
     requires within { len ≤ length text.now }
     requires known { IfSome known (λ kind. token_kind (take len text.now) ≡ Some kind) }
@@ -123,7 +124,7 @@ fn join(
     requires left { left.hides ≤ length arena.old }
     requires right { right.hides ≤ length arena.old }
     requires known { IfSome known (λ kind. token_kind left.text ≡ Some kind) }
-    ensures glued { IfOk result (λ g. map (seen_slot arena.new) (glued_slots g)
+    ensures glued { IfOk result (λ g. seen_slots arena.new (glued_slots g)
         ≡ joined_as (seen arena.old left) (seen arena.old right) (token_kind (left.text ++ right.text))) }
     ensures within { IfOk result (λ g. AreSlotsIn (length arena.new) (glued_slots g)) }
     ensures kept { Extends arena.old arena.new }
@@ -160,7 +161,8 @@ pub(crate) fn glue(
 ) -> Result<Glued, NoMemory>
     requires left { IsSlotIn (length arena.old) left }
     requires right { IsSlotIn (length arena.old) right }
-    ensures glued { IfOk result (λ g. map (seen_slot arena.new) (glued_slots g) ≡ glue (seen_slot arena.old left) (seen_slot arena.old right)) }
+    ensures glued { IfOk result (λ g. seen_slots arena.new (glued_slots g)
+        ≡ glue (seen_slot arena.old left) (seen_slot arena.old right)) }
     ensures within { IfOk result (λ g. AreSlotsIn (length arena.new) (glued_slots g)) }
     ensures kept { Extends arena.old arena.new }
 {

@@ -3,7 +3,7 @@ ghost use Rattle.std.specs.Prelude.{◌≡◌, ◌≤◌, ◌++◌, ◌∷◌, L
 ghost use Rattle.cb_paste.specs.Sets.{hides, Extends};
 ghost use Rattle.cb_paste.specs.Shades.{seen, waiting, shaded, all_shaded, first_spaced, AreIn};
 ghost use Rattle.cb_paste.specs.Joins.{real_of, reals};
-ghost use Rattle.cb_paste.specs.inner.Slots.{seen_slot, IsSlotIn, AreSlotsIn};
+ghost use Rattle.cb_paste.specs.inner.Slots.{seen_slot, seen_slots, IsSlotIn, AreSlotsIn};
 
 use crate::hides::Hides;
 use crate::slots::{Slot, Slots};
@@ -47,7 +47,8 @@ fn push_slot(
     requires extra { extra ≤ length arena.old }
     requires stack { AreIn (length arena.old) stack.old.items }
     ensures put { OnOk result (waiting arena.new stack.new.items
-        ≡ all_shaded (hides arena.old extra) (real_of (seen_slot arena.old slot)) ++ waiting arena.old stack.old.items) }
+        ≡ all_shaded (hides arena.old extra) (real_of (seen_slot arena.old slot))
+        ++ waiting arena.old stack.old.items) }
     ensures within { OnOk result (AreIn (length arena.new) stack.new.items) }
     ensures kept { Extends arena.old arena.new }
 {
@@ -71,7 +72,8 @@ pub(crate) fn push_slots(
     requires extra { extra ≤ length arena.old }
     requires stack { AreIn (length arena.old) stack.old.items }
     ensures put { OnOk result (waiting arena.new stack.new.items
-        ≡ all_shaded (hides arena.old extra) (reals (map (seen_slot arena.old) slots)) ++ waiting arena.old stack.old.items) }
+        ≡ all_shaded (hides arena.old extra) (reals (seen_slots arena.old slots))
+        ++ waiting arena.old stack.old.items) }
     ensures within { OnOk result (AreIn (length arena.new) stack.new.items) }
     ensures kept { Extends arena.old arena.new }
 {
@@ -83,7 +85,8 @@ pub(crate) fn push_slots(
 
 /// Gives the next token of the stack such white space.
 pub(crate) fn space_first(stack: &mut Vec<WorkToken>, spaced: bool) -> Result<(), NoMemory>
-    ensures put { OnOk result ((sets : List (List ℕ)) → waiting sets stack.new.items ≡ first_spaced spaced (waiting sets stack.old.items)) }
+    ensures put { OnOk result ((sets : List (List ℕ)) → waiting sets stack.new.items
+        ≡ first_spaced spaced (waiting sets stack.old.items)) }
     ensures within { OnOk result ((count : ℕ) → AreIn count stack.old.items → AreIn count stack.new.items) }
 {
     match stack.pop() {

@@ -3,8 +3,8 @@ ghost use Rattle.std.specs.Prelude.{◌≡◌, ◌<◌, ◌≤◌, ◌++◌, ◌
 ghost use Rattle.cb_paste.specs.Sets.{Extends};
 ghost use Rattle.cb_paste.specs.Shades.{seen, AreIn};
 ghost use Rattle.cb_paste.specs.Joins.{onto_last, reals};
-ghost use Rattle.cb_paste.specs.Puts.{seen_argument, AreArgumentsIn, shape_puts, put_one, put_from};
-ghost use Rattle.cb_paste.specs.inner.Slots.{token_count, seen_slot, as_slot, IsSlotIn, AreSlotsIn};
+ghost use Rattle.cb_paste.specs.Puts.{seen_arguments, AreArgumentsIn, shape_puts, put_one, put_from};
+ghost use Rattle.cb_paste.specs.inner.Slots.{token_count, seen_slot, seen_slots, as_slot, IsSlotIn, AreSlotsIn};
 ghost use Rattle.cb_paste.specs.inner.Glued.{glued_slots};
 ghost use Rattle.cb_paste.specs.inner.Given.{tokens_puts};
 
@@ -48,8 +48,10 @@ fn put_glued(
 ) -> Result<(), PasteFault>
     requires stands { AreSlotsIn (length arena.old) slots.old }
     requires new { IsSlotIn (length arena.old) slot }
-    ensures put { OnOk result (map (seen_slot arena.new) slots.new ≡ onto_last (map (seen_slot arena.old) slots.old) (seen_slot arena.old slot ∷ [])) }
-    ensures long { result ≡ Err PasteFault.TooLong → room < length (reals (onto_last (map (seen_slot arena.old) slots.old) (seen_slot arena.old slot ∷ []))) }
+    ensures put { OnOk result (seen_slots arena.new slots.new
+        ≡ onto_last (seen_slots arena.old slots.old) (seen_slot arena.old slot ∷ [])) }
+    ensures long { result ≡ Err PasteFault.TooLong → room < length
+        (reals (onto_last (seen_slots arena.old slots.old) (seen_slot arena.old slot ∷ []))) }
     ensures within { OnOk result (AreSlotsIn (length arena.new) slots.new) }
     ensures fits { OnOk result (token_count slots.new ≤ room) }
     ensures kept { Extends arena.old arena.new }
@@ -78,8 +80,10 @@ fn put(
 ) -> Result<(), PasteFault>
     requires stands { AreSlotsIn (length arena.old) slots.old }
     requires new { IsSlotIn (length arena.old) slot }
-    ensures put { OnOk result (map (seen_slot arena.new) slots.new ≡ put_one (map (seen_slot arena.old) slots.old) glued (seen_slot arena.old slot ∷ [])) }
-    ensures long { result ≡ Err PasteFault.TooLong → room < length (reals (put_one (map (seen_slot arena.old) slots.old) glued (seen_slot arena.old slot ∷ []))) }
+    ensures put { OnOk result (seen_slots arena.new slots.new
+        ≡ put_one (seen_slots arena.old slots.old) glued (seen_slot arena.old slot ∷ [])) }
+    ensures long { result ≡ Err PasteFault.TooLong → room < length
+        (reals (put_one (seen_slots arena.old slots.old) glued (seen_slot arena.old slot ∷ []))) }
     ensures within { OnOk result (AreSlotsIn (length arena.new) slots.new) }
     ensures fits { OnOk result (token_count slots.new ≤ room) }
     ensures kept { Extends arena.old arena.new }
@@ -123,9 +127,10 @@ fn put_some(
 ) -> Result<(), PasteFault>
     requires stands { AreSlotsIn (length arena.old) slots.old }
     requires new { AreIn (length arena.old) (first.now ∷ rest.now) }
-    ensures put { OnOk result (map (seen_slot arena.new) slots.new ≡ put_one (map (seen_slot arena.old) slots.old) part.now.glued
+    ensures put { OnOk result (seen_slots arena.new slots.new ≡ put_one (seen_slots arena.old slots.old) part.now.glued
         (tokens_puts false part.now.spaced (map (seen arena.old) (first.now ∷ rest.now)))) }
-    ensures long { result ≡ Err PasteFault.TooLong → room < length (reals (put_one (map (seen_slot arena.old) slots.old) part.now.glued
+    ensures long { result ≡ Err PasteFault.TooLong → room < length
+        (reals (put_one (seen_slots arena.old slots.old) part.now.glued
         (tokens_puts false part.now.spaced (map (seen arena.old) (first.now ∷ rest.now))))) }
     ensures within { OnOk result (AreSlotsIn (length arena.new) slots.new) }
     ensures fits { OnOk result (token_count slots.new ≤ room) }
@@ -151,9 +156,10 @@ fn put_argument(
     requires stands { AreSlotsIn (length arena.old) slots.old }
     requires few { token_count slots.old ≤ room }
     requires new { AreIn (length arena.old) tokens.now }
-    ensures put { OnOk result (map (seen_slot arena.new) slots.new ≡ put_one (map (seen_slot arena.old) slots.old) part.now.glued
+    ensures put { OnOk result (seen_slots arena.new slots.new ≡ put_one (seen_slots arena.old slots.old) part.now.glued
         (tokens_puts beside part.now.spaced (map (seen arena.old) tokens.now))) }
-    ensures long { result ≡ Err PasteFault.TooLong → room < length (reals (put_one (map (seen_slot arena.old) slots.old) part.now.glued
+    ensures long { result ≡ Err PasteFault.TooLong → room < length
+        (reals (put_one (seen_slots arena.old slots.old) part.now.glued
         (tokens_puts beside part.now.spaced (map (seen arena.old) tokens.now)))) }
     ensures within { OnOk result (AreSlotsIn (length arena.new) slots.new) }
     ensures fits { OnOk result (token_count slots.new ≤ room) }
@@ -194,10 +200,11 @@ fn put_part(
     requires stands { AreSlotsIn (length arena.old) slots.old }
     requires few { token_count slots.old ≤ room }
     requires given { AreArgumentsIn (length arena.old) arguments.now }
-    ensures put { OnOk result (map (seen_slot arena.new) slots.new ≡ put_one (map (seen_slot arena.old) slots.old) part.now.glued
-        (shape_puts (map (seen_argument arena.old) arguments.now) beside part.now.spaced part.now.shape)) }
-    ensures long { result ≡ Err PasteFault.TooLong → room < length (reals (put_one (map (seen_slot arena.old) slots.old) part.now.glued
-        (shape_puts (map (seen_argument arena.old) arguments.now) beside part.now.spaced part.now.shape))) }
+    ensures put { OnOk result (seen_slots arena.new slots.new ≡ put_one (seen_slots arena.old slots.old) part.now.glued
+        (shape_puts (seen_arguments arena.old arguments.now) beside part.now.spaced part.now.shape)) }
+    ensures long { result ≡ Err PasteFault.TooLong → room < length
+        (reals (put_one (seen_slots arena.old slots.old) part.now.glued
+        (shape_puts (seen_arguments arena.old arguments.now) beside part.now.spaced part.now.shape))) }
     ensures within { OnOk result (AreSlotsIn (length arena.new) slots.new) }
     ensures fits { OnOk result (token_count slots.new ≤ room) }
     ensures kept { Extends arena.old arena.new }
@@ -237,8 +244,10 @@ pub(crate) fn put_all(
     room: usize,
 ) -> Result<Slots, PasteFault>
     requires { AreArgumentsIn (length arena.old) arguments.now }
-    ensures put { IfOk result (λ slots. map (seen_slot arena.new) slots ≡ put_from (map (seen_argument arena.old) arguments.now) [] parts.now) }
-    ensures long { result ≡ Err PasteFault.TooLong → room < length (reals (put_from (map (seen_argument arena.old) arguments.now) [] parts.now)) }
+    ensures put { IfOk result (λ slots. seen_slots arena.new slots
+        ≡ put_from (seen_arguments arena.old arguments.now) [] parts.now) }
+    ensures long { result ≡ Err PasteFault.TooLong → room < length
+        (reals (put_from (seen_arguments arena.old arguments.now) [] parts.now)) }
     ensures within { IfOk result (λ slots. AreSlotsIn (length arena.new) slots) }
     ensures fits { IfOk result (λ slots. token_count slots ≤ room) }
     ensures kept { Extends arena.old arena.new }

@@ -2,7 +2,7 @@
 ghost use Rattle.std.specs.Prelude.{◌≡◌, ◌++◌, ◌<◌, ◌≤◌, map, length, IfOk, OnOk};
 ghost use Rattle.cb_paste.specs.Sets.{hides, Extends};
 ghost use Rattle.cb_paste.specs.Shades.{seen, waiting, all_shaded, AreIn};
-ghost use Rattle.cb_paste.specs.Puts.{seen_argument, puts, AreArgumentsIn};
+ghost use Rattle.cb_paste.specs.Puts.{seen_arguments, puts, AreArgumentsIn};
 
 use crate::argument::Argument;
 use crate::fault::PasteFault;
@@ -14,9 +14,10 @@ use crate::site::Site;
 use crate::work_token::WorkToken;
 use std::alloc::Global;
 
-/// Puts the tokens of a macro's replacement list, with the arguments in the place of the parameters, onto a stack whose last token is
-/// the next one to be read, and answers how many there are. An object-like macro has no arguments. It stops with `TooLong` as soon as
-/// it is certain that there is no room for all the tokens, and then leaves the stack as it was; out of memory it leaves there a part of them.
+/// Puts the tokens of a macro's replacement list, with the arguments in the place of the parameters, onto a stack whose
+/// last token is the next one to be read, and answers how many there are. An object-like macro has no arguments. It stops
+/// with `TooLong` as soon as it is certain that there is no room for all of them, and then leaves the stack as it was;
+/// out of memory it leaves there a part of them.
 pub fn substitute(
     alloc: Global,
     arena: &mut Hides,
@@ -29,12 +30,14 @@ pub fn substitute(
     requires stack { AreIn (length arena.old) stack.old.items }
     requires extra { site.hides ≤ length arena.old }
     ensures put { OnOk result (waiting arena.new stack.new.items
-        ≡ all_shaded (hides arena.old site.hides) (puts (map (seen_argument arena.old) arguments.now) site.spaced parts.now)
+        ≡ all_shaded (hides arena.old site.hides) (puts (seen_arguments arena.old arguments.now) site.spaced parts.now)
         ++ waiting arena.old stack.old.items) }
-    ensures count { IfOk result (λ count. count ≡ length (puts (map (seen_argument arena.old) arguments.now) site.spaced parts.now)) }
+    ensures count { IfOk result (λ count. count
+        ≡ length (puts (seen_arguments arena.old arguments.now) site.spaced parts.now)) }
     ensures room { IfOk result (λ count. count ≤ site.room) }
     ensures long { result ≡ Err PasteFault.TooLong
-        → (site.room < length (puts (map (seen_argument arena.old) arguments.now) site.spaced parts.now)) × (stack.new ≡ stack.old) }
+        → (site.room < length (puts (seen_arguments arena.old arguments.now) site.spaced parts.now))
+        × (stack.new ≡ stack.old) }
     ensures within { OnOk result (AreIn (length arena.new) stack.new.items) }
     ensures kept { Extends arena.old arena.new }
 {

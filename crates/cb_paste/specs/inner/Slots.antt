@@ -1,5 +1,5 @@
 -- What stands while it may still be joined, as the code holds it.
-use Rattle.std.specs.Prelude.{◌≡◌, ℕ, ◌+◌, ◌≤◌, Bool, true, false, List, [], ◌∷◌, Some}
+use Rattle.std.specs.Prelude.{◌≡◌, ℕ, ◌+◌, ◌≤◌, Bool, true, false, List, [], ◌∷◌, Some, map}
 use Rattle.cb_tokens.specs.Kinds.{token_kind}
 use Rattle.cb_paste.specs.declared.work_token.WorkToken.{WorkToken}
 use Rattle.cb_paste.specs.declared.slots.Slot.{Slot}
@@ -17,6 +17,10 @@ token_count (slot.Real t joined ∷ rest) = 1 + token_count rest
 abbrev pub seen_slot : List (List ℕ) → Slot → Put
 seen_slot sets (slot.Mark spaced) = Mark spaced
 seen_slot sets (slot.Real t joined) = Real (seen sets t)
+
+-- all that stands, with the hide sets (own)
+abbrev pub seen_slots : List (List ℕ) → List Slot → List Put
+seen_slots sets slots = map (seen_slot sets) slots
 
 -- the same with such white space before it (own)
 abbrev pub spaced_slot : Bool → Slot → Slot
