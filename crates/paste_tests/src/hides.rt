@@ -43,7 +43,10 @@ fn sets_have_their_places(rt: HostRuntime) -> Result<(), Fail> {
         ([7, 7, 4_294_967_295], 4_294_967_294, false),
         ([6, 5, 13], 0, false),
     ] {
-        assert!(rt; has(rt.alloc(), places.as_slice(), place)? == expected, "at {place}");
+        assert!(rt;
+            has(rt.alloc(), places.as_slice(), place)? == expected,
+            "at {place}"
+        );
     }
     Ok(())
 }

@@ -125,12 +125,7 @@ fn written(alloc: Global, mut stack: Vec<WorkToken>) -> Result<Vec<u8>, NoMemory
 }
 
 /// What a call puts in where there is room for so many tokens, as it is written in rows.
-fn put_in(
-    alloc: Global,
-    parts: &str,
-    arguments: &str,
-    room: usize,
-) -> Result<Vec<u8>, PasteFault> {
+fn put_in(alloc: Global, parts: &str, arguments: &str, room: usize) -> Result<Vec<u8>, PasteFault> {
     let parts = parts_of(alloc, parts)?;
     let arguments = arguments_of(alloc, arguments)?;
     let site = Site {
@@ -182,7 +177,10 @@ fn rows(rt: HostRuntime) -> Result<(), Fail> {
         ("a|+-|+>|+b", "", "a|->|b"),
         ("$0|+$1|+$2", "x;;y", "xy"),
     ] {
-        assert!(rt; puts(rt.alloc(), parts, arguments, expected)?, "at {parts} of {arguments}");
+        assert!(rt;
+            puts(rt.alloc(), parts, arguments, expected)?,
+            "at {parts} of {arguments}"
+        );
     }
     Ok(())
 }
@@ -207,7 +205,10 @@ fn rooms(rt: HostRuntime) -> Result<(), Fail> {
         ("$0|$0", "a|b", 3, false),
         ("$0|$0", "a|b", 4, true),
     ] {
-        assert!(rt; has_room(rt.alloc(), parts, arguments, room)? == expected, "at {parts}, room {room}");
+        assert!(rt;
+            has_room(rt.alloc(), parts, arguments, room)? == expected,
+            "at {parts}, room {room}"
+        );
     }
     Ok(())
 }
