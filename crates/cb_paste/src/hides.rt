@@ -54,7 +54,7 @@ impl Cell {
 }
 
 /// Sets of the places of macros. A set is a number: 0 is the empty one. Contracts see the list of the sets from 1 on, each
-/// a list of its places. Sets share the trees that they have in common, each at most 32 nodes deep.
+/// a list of its places. Sets share the trees that they have in common, each at most 33 nodes deep.
 #[derive(Drop)]
 pub struct Hides {
     cells: Vec<Cell>,
