@@ -1,0 +1,4 @@
+pub mod Stack
+pub mod Grown
+pub mod Agreeing
+pub mod One

@@ -1,0 +1,5 @@
+use Rattle.cb_pass.proofs.Agreeing.{same_pass}
+use Rattle.cb_pass.proofs.laws.same_pass.Goals as goal
+
+pub returns : goal.returns
+returns c = same_pass

@@ -1,0 +1,128 @@
+-- What a step of a pass asks of the files: the only place where a pass looks at them (6.10.2).
+use Rattle.std.specs.Prelude.{◌≡◌, ℕ, ◌+◌, ◌==◌, ◌&&◌, nat_lt, Bool, true, false, not, if◌then◌else◌, List, [], ◌∷◌, ◌++◌, length, Option, Some, None}
+use Rattle.std.specs.List.{list_any}
+use Rattle.std.specs.Str.{bytes_eq}
+use Rattle.cb_tree.specs.declared.node.NodeKind.{NodeKind}
+use Rattle.cb_tree.specs.declared.node.NodeKind.TheVariants.{Include}
+use Rattle.cb_tree.specs.Skeleton.{Bone}
+use Rattle.cb_include.specs.declared.command.Command.{Command}
+use Rattle.cb_include.specs.declared.header.Header.{Header}
+use Rattle.cb_pass.specs.declared.limits.TheConstants.{DEPTH_LIMIT}
+use Rattle.cb_pass.specs.declared.note.NoteKind.TheVariants as note
+use Rattle.cb_pass.specs.Notes.{Place}
+use Rattle.cb_pass.specs.Candidates.{candidates}
+use Rattle.cb_pass.specs.Headers.{quote_header, spelled_header}
+use Rattle.cb_pass.specs.Answers.{Answer, Names}
+use Rattle.cb_pass.specs.States.{Frame, Waiting, Given, Forced, Main, State}
+use Rattle.cb_pass.specs.Steps.{is_active, is_spent, place_in, with_note, turned_in}
+
+-- the files by their paths: of each that is present its skeleton, so without lines (own)
+abbrev pub Files : Type 0
+Files = List ℕ → Option (List Bone)
+
+-- what is asked of the files: nothing, that the main file begins, or that a header is looked for from a file or from the start,
+-- noted at a place and entered at a depth (own)
+pub data Request : Type 0 where
+  Stays : Request
+  Begins : Request
+  Searches : Option (List ℕ) → Place → ℕ → Header → Request
+
+-- a header that is named is looked for from the file (6.10.2)
+abbrev pub include_request : Frame → Answer → Request
+include_request f (Names header) = Searches (Some f.path) (place_in f) (f.depth + 1) header
+include_request f _ = Stays
+
+-- #include is the directive that asks for a file (6.10.2)
+abbrev pub node_request : NodeKind → Frame → Answer → Request
+node_request Include f answer = include_request f answer
+node_request _ f answer = Stays
+
+-- the request at the next node of a file (own)
+abbrev pub frame_request : Frame → List Bone → ℕ → Answer → Request
+frame_request f [] count answer = Stays
+frame_request f (b ∷ bs) count answer =
+    if not (is_spent b.kind f.sections count) && is_active b.kind f.sections then node_request b.kind f answer else Stays
+
+-- the place of the start of a command (own)
+abbrev pub start_of : Command → Place
+start_of command = record { path = command.main; node = 0 }
+
+-- the request of what waits: a forced file is a quote header of the start, of which an empty text names none (GCC's manual,
+-- "Options Controlling the Preprocessor", -include)
+abbrev pub waiting_request : Command → List Waiting → Request
+waiting_request command [] = Stays
+waiting_request command (Given op ∷ ws) = Stays
+waiting_request command (Forced text ∷ ws) =
+    if length text == 0 then Stays else Searches None (start_of command) 0 (quote_header text)
+waiting_request command (Main ∷ ws) = Begins
+
+abbrev pub request_in : Command → List Frame → List Waiting → ℕ → Answer → Request
+request_in command [] waiting count answer = waiting_request command waiting
+request_in command (f ∷ fs) waiting count answer = frame_request f f.rest count answer
+
+-- the request at a state, with the answer there (own)
+abbrev pub request : Command → Answer → State → Request
+request command answer s = request_in command s.frames s.waiting s.count answer
+
+-- a file is read from its first node on (own)
+abbrev pub first_frame : List ℕ → ℕ → List Bone → Frame
+first_frame path depth bones = record { path = path; node = 1; rest = bones; depth = depth; sections = [] }
+
+-- a file is entered, where it is present (6.10.2)
+abbrev pub entering : List ℕ → ℕ → Option (List Bone) → State → State
+entering path depth None s = s
+entering path depth (Some bones) s = record s { frames = first_frame path depth bones ∷ s.frames }
+
+-- the path where it is present, else what is found behind it (GCC's manual, "Options for Directory Search")
+abbrev pub present_or : Option (List Bone) → List ℕ → Option (List ℕ) → Option (List ℕ)
+present_or None path behind = behind
+present_or (Some bones) path behind = Some path
+
+-- the first path that is present (GCC's manual, "Options for Directory Search")
+abbrev pub first_present : Files → List (List ℕ) → Option (List ℕ)
+first_present files [] = None
+first_present files (path ∷ paths) = present_or (files path) path (first_present files paths)
+
+-- the path, and what is looked at behind it where it is absent (own)
+abbrev pub up_to_present : Option (List Bone) → List ℕ → List (List ℕ) → List (List ℕ)
+up_to_present None path behind = path ∷ behind
+up_to_present (Some bones) path behind = path ∷ []
+
+-- the paths up to the first that is present; all where none is (own)
+abbrev pub looked_at : Files → List (List ℕ) → List (List ℕ)
+looked_at files [] = []
+looked_at files (path ∷ paths) = up_to_present (files path) path (looked_at files paths)
+
+-- the probes with one more, unless it is there (own)
+unfoldable pub with_probe : List ℕ → List (List ℕ) → List (List ℕ)
+with_probe path probes = if list_any (bytes_eq path) probes then probes else probes ++ path ∷ []
+
+abbrev pub with_probes : List (List ℕ) → List (List ℕ) → List (List ℕ)
+with_probes [] probes = probes
+with_probes (path ∷ paths) probes = with_probes paths (with_probe path probes)
+
+-- what is done with the path that a search found: none is noted; one that is not to be entered again is passed over; the depth
+-- is looked at then (6.10.2; the order is own)
+abbrev pub found_path : Files → Place → ℕ → Header → Option (List ℕ) → State → State
+found_path files place depth header None s = with_note place note.Missing (spelled_header header) s
+found_path files place depth header (Some path) s =
+    if s.once path then s
+    else (if nat_lt DEPTH_LIMIT depth then with_note place note.TooDeep [] s else entering path depth (files path) s)
+
+-- a state in which a request is met (6.10.2)
+abbrev pub met : Files → Command → Request → State → State
+met files command Stays s = s
+met files command Begins s = entering command.main 0 (files command.main) s
+met files command (Searches from place depth header) s =
+    let paths = candidates command from header in
+    found_path files place depth header (first_present files paths) (record s { probes = with_probes (looked_at files paths) s.probes })
+
+-- a state one step on, with the answer to its question (own)
+abbrev pub stepped : Files → Command → Answer → State → State
+stepped files command answer s =
+    met files command (request command answer s) (turned_in (start_of command) answer s.frames s.waiting s)
+
+-- files agree on paths, in absence or in skeleton (own)
+abbrev pub Agree : Files → Files → List (List ℕ) → Type 0
+Agree files other [] = Unit {0}
+Agree files other (path ∷ paths) = (files path ≡ other path) × Agree files other paths

@@ -1,0 +1,212 @@
+-- A step of a pass: to the next node of the innermost file, out of it at its end, or to what waits (6.10).
+use Rattle.std.specs.Prelude.{ℕ, ◌+◌, ◌==◌, ◌&&◌, ◌||◌, nat_le, nat_lt, Bool, true, false, not, if◌then◌else◌, List, [], ◌∷◌, length, Option, Some, None, codes}
+use Prim.Native.Nat.{suc}
+use Rattle.std.specs.Str.{bytes_eq}
+use Rattle.cb_tokens.specs.declared.token.Token.{Token}
+use Rattle.cb_tokens.specs.Kinds.{is_identifier_kind}
+use Rattle.cb_tree.specs.declared.node.NodeKind.{NodeKind}
+use Rattle.cb_tree.specs.declared.node.NodeKind.TheVariants.{Text, If, Ifdef, Ifndef, Elif, Else, Endif, Define, Undef, Include, Once, Error, Other}
+use Rattle.cb_tree.specs.Kinds.{rest_of}
+use Rattle.cb_tree.specs.Skeleton.{Bone}
+use Rattle.cb_cond.specs.Faults.{fault_name}
+use Rattle.cb_macro.specs.Definitions.{Definition, defines, undefines}
+use Rattle.cb_macro.specs.Maps.{found}
+use Rattle.cb_macro.specs.Standin.{differs_from}
+use Rattle.cb_include.specs.declared.op.Op.{Op}
+use Rattle.cb_include.specs.declared.op.Op.TheVariants as op
+use Rattle.cb_pass.specs.declared.limits.TheConstants.{NODE_LIMIT}
+use Rattle.cb_pass.specs.declared.section.Section.{Section}
+use Rattle.cb_pass.specs.declared.note.NoteKind.{NoteKind}
+use Rattle.cb_pass.specs.declared.note.NoteKind.TheVariants as note
+use Rattle.cb_pass.specs.Sections.{is_live, is_before_live, may_be_taken, entered, continued, turned, closed}
+use Rattle.cb_pass.specs.Notes.{Place, note_at, noted}
+use Rattle.cb_pass.specs.Macros.{Macros, with_macro, without_macro}
+use Rattle.cb_pass.specs.Answers.{Question, Nothing, Word, Truth, Named, Answer, Silent, Defines, Undefines, Wordless, Holds, Faulty, Names, Nameless, Long}
+use Rattle.cb_pass.specs.States.{Frame, Waiting, Given, Forced, Main, State}
+
+-- a node of the kind is reached here: #elif, #else and #endif where their section stands in live text (own), any other in
+-- live text (6.10.1 paragraph 6)
+abbrev pub is_reached : NodeKind → List Section → Bool
+is_reached Elif sections = is_before_live sections
+is_reached Else sections = is_before_live sections
+is_reached Endif sections = is_before_live sections
+is_reached _ sections = is_live sections
+
+-- a directive of the kind has its effect here: in live text, and #elif where no group of its section was taken
+-- (6.10.1 paragraph 6)
+abbrev pub is_active : NodeKind → List Section → Bool
+is_active Elif sections = may_be_taken sections
+is_active _ sections = is_live sections
+
+-- what a directive asks (6.10.1, 6.10.2)
+abbrev pub question_of : NodeKind → List Token → Question
+question_of If rest = Truth rest
+question_of Elif rest = Truth rest
+question_of Include rest = Named rest
+question_of _ rest = Nothing
+
+-- the node that would be reached is one too many (own)
+abbrev pub is_spent : NodeKind → List Section → ℕ → Bool
+is_spent kind sections count = is_reached kind sections && nat_le NODE_LIMIT count
+
+-- the question at the next node of a file (own)
+abbrev pub frame_question : List Bone → List Section → ℕ → Question
+frame_question [] sections count = Nothing
+frame_question (b ∷ bs) sections count =
+    if not (is_spent b.kind sections count) && is_active b.kind sections then question_of b.kind (rest_of b.tokens) else Nothing
+
+-- the question of what waits (own)
+abbrev pub waiting_question : List Waiting → Question
+waiting_question [] = Nothing
+waiting_question (Given op ∷ ws) = Word op
+waiting_question (Forced text ∷ ws) = Nothing
+waiting_question (Main ∷ ws) = Nothing
+
+abbrev pub question_in : List Frame → List Waiting → ℕ → Question
+question_in [] waiting count = waiting_question waiting
+question_in (f ∷ fs) waiting count = frame_question f.rest f.sections count
+
+-- the question at a state (own)
+abbrev pub question : State → Question
+question s = question_in s.frames s.waiting s.count
+
+-- the identifier that stands first (6.10.1 paragraph 5)
+abbrev pub first_name : List Token → Option (List ℕ)
+first_name [] = None
+first_name (t ∷ ts) = if is_identifier_kind t.kind then Some t.text else None
+
+-- a macro of the name is defined (6.10.1 paragraph 5)
+abbrev pub is_defined : Option Definition → Bool
+is_defined None = false
+is_defined (Some definition) = true
+
+-- #ifdef and #ifndef by the identifier that stands first; without one they are false (6.10.1 paragraph 5; false is own)
+abbrev pub has_macro : Option (List ℕ) → Macros → Bool
+has_macro None macros = false
+has_macro (Some name) macros = is_defined (found name macros)
+
+abbrev pub lacks_macro : Option (List ℕ) → Macros → Bool
+lacks_macro None macros = false
+lacks_macro (Some name) macros = not (is_defined (found name macros))
+
+-- a condition with a fault is false (own)
+abbrev pub truth : Answer → Bool
+truth (Holds holds) = holds
+truth _ = false
+
+-- the open sections behind a node of the kind (6.10.1 paragraph 6)
+abbrev pub sections_behind : NodeKind → List Token → Macros → Answer → List Section → List Section
+sections_behind If rest macros answer sections = entered (truth answer) sections
+sections_behind Ifdef rest macros answer sections = entered (has_macro (first_name rest) macros) sections
+sections_behind Ifndef rest macros answer sections = entered (lacks_macro (first_name rest) macros) sections
+sections_behind Elif rest macros answer sections = continued (truth answer) sections
+sections_behind Else rest macros answer sections = turned sections
+sections_behind Endif rest macros answer sections = closed sections
+sections_behind _ rest macros answer sections = sections
+
+-- a state with a note (own)
+abbrev pub with_note : Place → NoteKind → List ℕ → State → State
+with_note place kind detail s = record s { notes = noted (note_at place kind detail) s.notes }
+
+-- a macro is defined; where another definition of it stood, that is noted (6.10.3 paragraph 2)
+abbrev pub with_definition : Place → List ℕ → Definition → State → State
+with_definition place name definition s = record s {
+  macros = with_macro name definition s.macros;
+  notes = if differs_from (found name s.macros) definition then noted (note_at place note.Redefined name) s.notes else s.notes;
+}
+
+abbrev pub defined : Place → Option (List ℕ × Definition) → State → State
+defined place None s = with_note place note.BadDefine [] s
+defined place (Some d) s = with_definition place d.0 d.1 s
+
+-- a macro is defined no more (6.10.3.5 paragraph 2)
+abbrev pub undefined : Place → Option (List ℕ) → State → State
+undefined place None s = with_note place note.BadDefine [] s
+undefined place (Some name) s = record s { macros = without_macro name s.macros }
+
+-- #ifdef and #ifndef without an identifier are malformed (6.10.1 paragraph 5)
+abbrev pub name_noted : Place → Option (List ℕ) → State → State
+name_noted place None s = with_note place note.BadCondition (codes "Malformed") s
+name_noted place (Some name) s = s
+
+-- the note of an answer; of a header that is named it comes with the search (own)
+abbrev pub answer_noted : Place → Answer → State → State
+answer_noted place (Faulty bad) s = with_note place note.BadCondition (fault_name bad) s
+answer_noted place Nameless s = with_note place note.BadInclude [] s
+answer_noted place Long s = with_note place note.TooLong [] s
+answer_noted place _ s = s
+
+-- the paths with one more
+abbrev pub with_path : List ℕ → (List ℕ → Bool) → List ℕ → Bool
+with_path path paths p = bytes_eq p path || paths p
+
+-- what a directive of the kind does, but for the file that it includes (6.10.1 to 6.10.6)
+abbrev pub effect : NodeKind → Place → List Token → Answer → State → State
+effect If place rest answer s = answer_noted place answer s
+effect Ifdef place rest answer s = name_noted place (first_name rest) s
+effect Ifndef place rest answer s = name_noted place (first_name rest) s
+effect Elif place rest answer s = answer_noted place answer s
+effect Define place rest answer s = defined place (defines rest) s
+effect Undef place rest answer s = undefined place (undefines rest) s
+effect Include place rest answer s = answer_noted place answer s
+effect Once place rest answer s = record s { once = with_path place.path s.once }
+effect Error place rest answer s = with_note place note.ErrorReached [] s
+effect _ place rest answer s = s
+
+-- the nodes reached with one more
+abbrev pub with_node : Place → (List ℕ → ℕ → Bool) → List ℕ → ℕ → Bool
+with_node place reached path node = (bytes_eq path place.path && (node == place.node)) || reached path node
+
+-- a node is reached
+abbrev pub counted : Bool → Place → State → State
+counted reached place s =
+    if reached then record s { reached = with_node place s.reached; count = suc s.count } else s
+
+-- the place of a file's next node
+abbrev pub place_in : Frame → Place
+place_in f = record { path = f.path; node = f.node }
+
+-- a file behind its next node
+abbrev pub behind_node : Frame → List Bone → List Section → Frame
+behind_node f rest sections = record f { node = suc f.node; rest = rest; sections = sections }
+
+-- a state behind the next node of a file, but for the file that it includes (own)
+abbrev pub behind : Answer → Frame → Bone → List Bone → List Frame → State → State
+behind answer f b bs fs s =
+    let entered_state = counted (is_reached b.kind f.sections) (place_in f)
+          (record s { frames = behind_node f bs (sections_behind b.kind (rest_of b.tokens) s.macros answer f.sections) ∷ fs }) in
+    if is_active b.kind f.sections then effect b.kind (place_in f) (rest_of b.tokens) answer entered_state else entered_state
+
+-- the pass ends where one node too many would be reached (own)
+abbrev pub ended : Place → State → State
+ended place s = with_note place note.Budget [] (record s { frames = []; waiting = [] })
+
+-- a state behind the next node of a file, or out of the file (own)
+abbrev pub turned_frame : Answer → Frame → List Bone → List Frame → State → State
+turned_frame answer f [] fs s = record s { frames = fs }
+turned_frame answer f (b ∷ bs) fs s = if is_spent b.kind f.sections s.count then ended (place_in f) s else behind answer f b bs fs s
+
+-- the word of -D or -U
+abbrev pub word_of : Op → List ℕ
+word_of (op.Define word) = word
+word_of (op.Undef word) = word
+
+-- what a word of -D or -U does (own)
+abbrev pub word_effect : Place → List ℕ → Answer → State → State
+word_effect place word (Defines name definition) s = with_definition place name definition s
+word_effect place word (Undefines name) s = record s { macros = without_macro name s.macros }
+word_effect place word Wordless s = with_note place note.BadDefine word s
+word_effect place word _ s = s
+
+-- a state behind what waits, but for the file that it begins (own)
+abbrev pub turned_waiting : Place → Answer → List Waiting → State → State
+turned_waiting place answer [] s = s
+turned_waiting place answer (Given op ∷ ws) s = word_effect place (word_of op) answer (record s { waiting = ws })
+turned_waiting place answer (Forced text ∷ ws) s =
+    if length text == 0 then with_note place note.BadInclude [] (record s { waiting = ws }) else record s { waiting = ws }
+turned_waiting place answer (Main ∷ ws) s = record s { waiting = ws }
+
+-- a state one step on, but for the file that is entered; the place is that of the start (own)
+abbrev pub turned_in : Place → Answer → List Frame → List Waiting → State → State
+turned_in start answer [] waiting s = turned_waiting start answer waiting s
+turned_in start answer (f ∷ fs) waiting s = turned_frame answer f f.rest fs s

@@ -1,0 +1,40 @@
+//! What a pass leaves to be told.
+use cb_paths::{Bytes, Path};
+
+/// What a note tells.
+#[derive(Clone, Copy, Debug, PartialEq, Eq, PartialOrd, Ord, Hash)]
+pub enum NoteKind {
+    /// No file was present for a header.
+    Missing,
+    /// An `#include` names no header.
+    BadInclude,
+    /// A `#define`, `#undef`, `-D` or `-U` is none.
+    BadDefine,
+    /// A macro was defined again, and otherwise.
+    Redefined,
+    /// A condition has a fault.
+    BadCondition,
+    /// The tokens of a condition or of an `#include` are too long after replacement.
+    TooLong,
+    /// A header was not entered because of the depth.
+    TooDeep,
+    /// The pass ended because of the number of nodes.
+    Budget,
+    /// An `#error` was reached.
+    ErrorReached,
+    /// The main file is absent.
+    NoMain,
+}
+
+/// A note: where it was left, and what it tells. Notes are in the order of these fields.
+#[derive(Drop)]
+pub struct Note {
+    /// The file; of the start of a command it is the main file.
+    pub path: Path,
+    /// The number of the node, 0 for the start of a command.
+    pub node: u32,
+    /// What it tells.
+    pub kind: NoteKind,
+    /// The header, the word, the name or the name of the fault that it is about; else empty.
+    pub detail: Bytes,
+}
