@@ -1,7 +1,8 @@
 -- A pass over files that agree on its probes is the same.
 use Rattle.std.proofs.Common.{◌≡◌, ℕ, Bool, true, false, List, [], ◌∷◌, ◌++◌, refl, sym, ap, subst, ◌∙◌, if◌then◌else◌}
-use Rattle.std.specs.Prelude.{Option, Some, None, ◌||◌}
-use Rattle.std.specs.List.{list_any}
+use Rattle.std.specs.Prelude.{Option, Some, None, ◌||◌, cond}
+use Rattle.std.specs.List.{list_any, find}
+use Rattle.std.specs.Option.{is_some}
 use Rattle.std.specs.Str.{bytes_eq}
 use Rattle.std.specs.Cmp.Lexicographic.{bytes_decides}
 use Rattle.cb_tree.specs.Skeleton.{Bone}
@@ -11,10 +12,11 @@ use Rattle.cb_pass.specs.Notes.{Place}
 use Rattle.cb_pass.specs.Answers.{Answer}
 use Rattle.cb_pass.specs.States.{State, Outcome, outcome}
 use Rattle.cb_pass.specs.Steps.{turned_in}
-use Rattle.cb_pass.specs.Candidates.{candidates}
-use Rattle.cb_pass.specs.Files.{Files, Request, Stays, Begins, Searches, request, start_of, entering, first_present, present_or, looked_at, up_to_present, with_probe, with_probes, found_path, met, stepped, Agree}
+use Rattle.cb_include.specs.Candidates.{candidates}
+use Rattle.cb_include.specs.Seen.{has_path, with_path, with_paths, up_to}
+use Rattle.cb_pass.specs.Files.{Files, Request, Stays, Begins, Searches, request, start_of, entering, is_present, found_path, met, stepped, Agree}
 use Rattle.cb_pass.specs.Passes.{Leads, over, goes, start, start_with, IsPass}
-use Rattle.cb_pass.proofs.Grown.{Grows, with_probes_grows, found_probes, stepped_grows, leads_grows}
+use Rattle.cb_pass.proofs.Grown.{Grows, with_paths_grows, found_probes, stepped_grows, leads_grows}
 
 module _ (files other : Files) where
   front : (paths more : List (List ℕ)) → Agree files other (paths ++ more) → Agree files other paths
@@ -45,53 +47,54 @@ module _ (files other : Files) where
   at_either true path paths e a = at_any path paths a e
   at_either false path paths e a = at_last path paths a
 
-  at_probe : (path : List ℕ) (paths : List (List ℕ)) → Agree files other (with_probe path paths) → files path ≡ other path
-  unfolding with_probe
-  at_probe path paths a = at_either (list_any (bytes_eq path) paths) path paths refl a
+  at_probe : (path : List ℕ) (paths : List (List ℕ)) → Agree files other (with_path paths path) → files path ≡ other path
+  at_probe path paths a = at_either (has_path paths path) path paths refl a
 
-  at_probes : (more paths : List (List ℕ)) → Agree files other (with_probes more paths) → Agree files other more
+  at_probes : (more paths : List (List ℕ)) → Agree files other (with_paths paths more) → Agree files other more
   at_probes [] paths a = tt
   at_probes (path ∷ more) paths a =
-      (at_probe path paths (before (with_probe path paths) (with_probes more (with_probe path paths)) (with_probes_grows more (with_probe path paths)) a),
-       at_probes more (with_probe path paths) a)
+      (at_probe path paths (before (with_path paths path) (with_paths (with_path paths path) more) (with_paths_grows more (with_path paths path)) a),
+       at_probes more (with_path paths path) a)
 
-  at_front : (bones : Option (List Bone)) (path : List ℕ) (behind : List (List ℕ)) → Agree files other (up_to_present bones path behind) → files path ≡ other path
-  at_front None path behind a = a.0
-  at_front (Some bones) path behind a = a.0
+  at_front : (test : Bool) (path : List ℕ) (behind : List (List ℕ)) → Agree files other (if test then path ∷ [] else path ∷ behind) → files path ≡ other path
+  at_front true path behind a = a.0
+  at_front false path behind a = a.0
 
-  same_up_to : (bones : Option (List Bone)) (path : List ℕ) (behind more : List (List ℕ)) → Agree files other (up_to_present bones path behind)
-      → (Agree files other behind → behind ≡ more) → up_to_present bones path behind ≡ up_to_present bones path more
-  same_up_to None path behind more a h = ap (λ (x : List (List ℕ)). path ∷ x) (h a.1)
-  same_up_to (Some bones) path behind more a h = refl
+  same_up_to : (test : Bool) (path : List ℕ) (behind more : List (List ℕ)) → Agree files other (if test then path ∷ [] else path ∷ behind)
+      → (Agree files other behind → behind ≡ more) → (if test then path ∷ [] else path ∷ behind) ≡ (if test then path ∷ [] else path ∷ more)
+  same_up_to true path behind more a h = refl
+  same_up_to false path behind more a h = ap (λ (x : List (List ℕ)). path ∷ x) (h a.1)
 
-  same_looked_at : (paths : List (List ℕ)) → Agree files other (looked_at files paths) → looked_at files paths ≡ looked_at other paths
+  same_looked_at : (paths : List (List ℕ)) → Agree files other (up_to (is_present files) paths) → up_to (is_present files) paths ≡ up_to (is_present other) paths
   same_looked_at [] a = refl
   same_looked_at (path ∷ paths) a =
-      same_up_to (files path) path (looked_at files paths) (looked_at other paths) a (same_looked_at paths)
-      ∙ ap (λ (bones : Option (List Bone)). up_to_present bones path (looked_at other paths)) (at_front (files path) path (looked_at files paths) a)
+      same_up_to (is_present files path) path (up_to (is_present files) paths) (up_to (is_present other) paths) a (same_looked_at paths)
+      ∙ ap (λ (bones : Option (List Bone)). (if is_some bones then path ∷ [] else path ∷ up_to (is_present other) paths))
+        (at_front (is_present files path) path (up_to (is_present files) paths) a)
 
-  same_present_or : (bones : Option (List Bone)) (path : List ℕ) (behind : List (List ℕ)) (found more : Option (List ℕ))
-      → Agree files other (up_to_present bones path behind) → (Agree files other behind → found ≡ more) → present_or bones path found ≡ present_or bones path more
-  same_present_or None path behind found more a h = h a.1
-  same_present_or (Some bones) path behind found more a h = refl
+  same_first : (test : Bool) (path : List ℕ) (behind : List (List ℕ)) (found more : Option (List ℕ))
+      → Agree files other (if test then path ∷ [] else path ∷ behind) → (Agree files other behind → found ≡ more) → cond test (Some path) found ≡ cond test (Some path) more
+  same_first true path behind found more a h = refl
+  same_first false path behind found more a h = h a.1
 
-  same_present : (paths : List (List ℕ)) → Agree files other (looked_at files paths) → first_present files paths ≡ first_present other paths
+  same_present : (paths : List (List ℕ)) → Agree files other (up_to (is_present files) paths) → find (is_present files) paths ≡ find (is_present other) paths
   same_present [] a = refl
   same_present (path ∷ paths) a =
-      same_present_or (files path) path (looked_at files paths) (first_present files paths) (first_present other paths) a (same_present paths)
-      ∙ ap (λ (bones : Option (List Bone)). present_or bones path (first_present other paths)) (at_front (files path) path (looked_at files paths) a)
+      same_first (is_present files path) path (up_to (is_present files) paths) (find (is_present files) paths) (find (is_present other) paths) a (same_present paths)
+      ∙ ap (λ (bones : Option (List Bone)). cond (is_some bones) (Some path) (find (is_present other) paths))
+        (at_front (is_present files path) path (up_to (is_present files) paths) a)
 
-  found_at : (bones : Option (List Bone)) (path : List ℕ) (behind : List (List ℕ)) (found : Option (List ℕ)) (p : List ℕ)
-      → Agree files other (up_to_present bones path behind) → (Agree files other behind → found ≡ Some p → files p ≡ other p)
-      → present_or bones path found ≡ Some p → files p ≡ other p
-  found_at None path behind found p a h e = h a.1 e
-  found_at (Some bones) path behind found p a h e =
-      let same : path ≡ p = cc in subst (λ (q : List ℕ). files q ≡ other q) same a.0
+  found_at : (test : Bool) (path : List ℕ) (behind : List (List ℕ)) (found : Option (List ℕ)) (p : List ℕ)
+      → Agree files other (if test then path ∷ [] else path ∷ behind) → (Agree files other behind → found ≡ Some p → files p ≡ other p)
+      → cond test (Some path) found ≡ Some p → files p ≡ other p
+  found_at true path behind found p a h e =
+      let same : path ≡ p = cc in subst (λ (q : List ℕ). files q ≡ other q) same (at_front true path behind a)
+  found_at false path behind found p a h e = h a.1 e
 
-  at_found : (paths : List (List ℕ)) (p : List ℕ) → Agree files other (looked_at files paths) → first_present files paths ≡ Some p → files p ≡ other p
+  at_found : (paths : List (List ℕ)) (p : List ℕ) → Agree files other (up_to (is_present files) paths) → find (is_present files) paths ≡ Some p → files p ≡ other p
   at_found [] p a e = absurd cc
   at_found (path ∷ paths) p a e =
-      found_at (files path) path (looked_at files paths) (first_present files paths) p a (at_found paths p) e
+      found_at (is_present files path) path (up_to (is_present files) paths) (find (is_present files) paths) p a (at_found paths p) e
 
   same_found : (place : Place) (depth : ℕ) (header : Header) (path : Option (List ℕ)) (s : State)
       → ((p : List ℕ) → path ≡ Some p → files p ≡ other p) → found_path files place depth header path s ≡ found_path other place depth header path s
@@ -104,13 +107,13 @@ module _ (files other : Files) where
     same_met Begins s a = rw main
     same_met (Searches from place depth header) s a =
         let paths : List (List ℕ) = candidates command from header in
-        let t : State = record s { probes = with_probes (looked_at files paths) s.probes } in
-        let a1 : Agree files other (with_probes (looked_at files paths) s.probes) =
-            subst (Agree files other) (found_probes files place depth header (first_present files paths) t) a in
-        let a2 : Agree files other (looked_at files paths) = at_probes (looked_at files paths) s.probes a1 in
-        same_found place depth header (first_present files paths) t (λ p e. at_found paths p a2 e)
+        let t : State = record s { probes = with_paths s.probes (up_to (is_present files) paths) } in
+        let a1 : Agree files other (with_paths s.probes (up_to (is_present files) paths)) =
+            subst (Agree files other) (found_probes files place depth header (find (is_present files) paths) t) a in
+        let a2 : Agree files other (up_to (is_present files) paths) = at_probes (up_to (is_present files) paths) s.probes a1 in
+        same_found place depth header (find (is_present files) paths) t (λ p e. at_found paths p a2 e)
         ∙ (ap (λ (path : Option (List ℕ)). found_path other place depth header path t) (same_present paths a2)
-        ∙ ap (λ (looked : List (List ℕ)). found_path other place depth header (first_present other paths) (record s { probes = with_probes looked s.probes })) (same_looked_at paths a2))
+        ∙ ap (λ (looked : List (List ℕ)). found_path other place depth header (find (is_present other) paths) (record s { probes = with_paths s.probes looked })) (same_looked_at paths a2))
 
     same_stepped : (answer : Answer) (s : State) → Agree files other (stepped files command answer s).probes → stepped files command answer s ≡ stepped other command answer s
     same_stepped answer s a = same_met (request command answer s) (turned_in (start_of command) answer s.frames s.waiting s) a

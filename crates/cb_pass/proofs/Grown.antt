@@ -2,8 +2,7 @@
 use Rattle.std.proofs.Common.{◌≡◌, ℕ, Bool, true, false, List, [], ◌∷◌, ◌++◌, refl, sym, ap, ◌∙◌, append_assoc, if◌then◌else◌}
 use Rattle.std.specs.Prelude.{Option, Some, None}
 use Rattle.std.proofs.lemmas.List.{append-nil}
-use Rattle.std.specs.List.{list_any}
-use Rattle.std.specs.Str.{bytes_eq}
+use Rattle.std.specs.List.{find}
 use Rattle.cb_tokens.specs.declared.token.Token.{Token}
 use Rattle.cb_tree.specs.declared.node.NodeKind.{NodeKind}
 use Rattle.cb_tree.specs.declared.node.NodeKind.TheVariants.{Text, If, Ifdef, Ifndef, Elif, Else, Endif, Define, Undef, Include, Once, Error, Other}
@@ -15,9 +14,10 @@ use Rattle.cb_include.specs.declared.header.Header.{Header}
 use Rattle.cb_pass.specs.Notes.{Place}
 use Rattle.cb_pass.specs.Answers.{Answer, Silent, Defines, Undefines, Wordless, Holds, Faulty, Names, Nameless, Long, IsAnswered}
 use Rattle.cb_pass.specs.States.{Frame, Waiting, Given, Forced, Main, State, Outcome, outcome}
-use Rattle.cb_pass.specs.Steps.{first_name, answer_noted, name_noted, defined, undefined, effect, counted, behind, turned_frame, word_effect, word_of, turned_waiting, turned_in, is_active, is_reached, is_spent, place_in, behind_node, sections_behind, ended}
-use Rattle.cb_pass.specs.Candidates.{candidates}
-use Rattle.cb_pass.specs.Files.{Files, Request, Stays, Begins, Searches, request, start_of, entering, first_present, looked_at, with_probe, with_probes, found_path, met, stepped}
+use Rattle.cb_pass.specs.Steps.{first_name, answer_noted, name_noted, defined, undefined, effect, counted, behind, turned_frame, word_effect, word_of, turned_waiting, turned_in, is_active, is_reached, is_spent, place_in, behind_node, sections_behind, holds_at, ended}
+use Rattle.cb_include.specs.Candidates.{candidates}
+use Rattle.cb_include.specs.Seen.{has_path, with_path, with_paths, up_to}
+use Rattle.cb_pass.specs.Files.{Files, Request, Stays, Begins, Searches, request, start_of, entering, is_present, found_path, met, stepped}
 use Rattle.cb_pass.specs.Passes.{Leads, over, goes}
 
 -- a list goes on
@@ -37,15 +37,14 @@ either_grows : (test : Bool) (path : List ℕ) (paths : List (List ℕ)) → Gro
 either_grows true path paths = grows_itself paths
 either_grows false path paths = (path ∷ [], refl)
 
-pub with_probe_grows : (path : List ℕ) (paths : List (List ℕ)) → Grows paths (with_probe path paths)
-unfolding with_probe
-with_probe_grows path paths = either_grows (list_any (bytes_eq path) paths) path paths
+pub with_path_grows : (path : List ℕ) (paths : List (List ℕ)) → Grows paths (with_path paths path)
+with_path_grows path paths = either_grows (has_path paths path) path paths
 
-pub with_probes_grows : (more paths : List (List ℕ)) → Grows paths (with_probes more paths)
-with_probes_grows [] paths = grows_itself paths
-with_probes_grows (path ∷ more) paths =
-    grows_on paths (with_probe path paths) (with_probes more (with_probe path paths)) (with_probe_grows path paths)
-    (with_probes_grows more (with_probe path paths))
+pub with_paths_grows : (more paths : List (List ℕ)) → Grows paths (with_paths paths more)
+with_paths_grows [] paths = grows_itself paths
+with_paths_grows (path ∷ more) paths =
+    grows_on paths (with_path paths path) (with_paths (with_path paths path) more) (with_path_grows path paths)
+    (with_paths_grows more (with_path paths path))
 
 -- whichever of two states it is, it has these probes
 either_probes : (test : Bool) (s t : State) (paths : List (List ℕ)) → s.probes ≡ paths → t.probes ≡ paths → (if test then s else t).probes ≡ paths
@@ -96,7 +95,7 @@ counted_probes false place s = refl
 
 behind_probes : (answer : Answer) (f : Frame) (b : Bone) (bs : List Bone) (fs : List Frame) (s : State) → (behind answer f b bs fs s).probes ≡ s.probes
 behind_probes answer f b bs fs s =
-    let t : State = record s { frames = behind_node f bs (sections_behind b.kind (rest_of b.tokens) s.macros answer f.sections) ∷ fs } in
+    let t : State = record s { frames = behind_node f bs (sections_behind b.kind (holds_at b.kind (rest_of b.tokens) s.macros answer) f.sections) ∷ fs } in
     let u : State = counted (is_reached b.kind f.sections) (place_in f) t in
     let e : u.probes ≡ s.probes = counted_probes (is_reached b.kind f.sections) (place_in f) t in
     either_probes (is_active b.kind f.sections) (effect b.kind (place_in f) (rest_of b.tokens) answer u) u s.probes
@@ -137,16 +136,16 @@ pub found_probes : (files : Files) (place : Place) (depth : ℕ) (header : Heade
     → (found_path files place depth header path s).probes ≡ s.probes
 found_probes files place depth header None s = refl
 found_probes files place depth header (Some path) s =
-    either_probes (s.once path) _ _ s.probes refl (either_probes _ _ _ s.probes refl (entering_probes path depth (files path) s))
+    either_probes (has_path s.once path) _ _ s.probes refl (either_probes _ _ _ s.probes refl (entering_probes path depth (files path) s))
 
 pub met_grows : (files : Files) (command : Command) (request : Request) (s : State) → Grows s.probes (met files command request s).probes
 met_grows files command Stays s = grows_itself s.probes
 met_grows files command Begins s = same_grows _ _ (sym (entering_probes command.main 0 (files command.main) s))
 met_grows files command (Searches from place depth header) s =
     let paths : List (List ℕ) = candidates command from header in
-    let more : List (List ℕ) = with_probes (looked_at files paths) s.probes in
-    grows_on s.probes more (met files command (Searches from place depth header) s).probes (with_probes_grows (looked_at files paths) s.probes)
-    (same_grows _ _ (sym (found_probes files place depth header (first_present files paths) (record s { probes = more }))))
+    let more : List (List ℕ) = with_paths s.probes (up_to (is_present files) paths) in
+    grows_on s.probes more (met files command (Searches from place depth header) s).probes (with_paths_grows (up_to (is_present files) paths) s.probes)
+    (same_grows _ _ (sym (found_probes files place depth header (find (is_present files) paths) (record s { probes = more }))))
 
 pub stepped_grows : (files : Files) (command : Command) (answer : Answer) (s : State) → Grows s.probes (stepped files command answer s).probes
 stepped_grows files command answer s =

@@ -6,16 +6,17 @@ use Rattle.cb_tokens.specs.declared.token.Token.{Token}
 use Rattle.cb_cond.specs.declared.bad_condition.BadCondition.{BadCondition}
 use Rattle.cb_cond.specs.Symbols.{symbols}
 use Rattle.cb_cond.specs.Faults.{IsAnswer}
-use Rattle.cb_macro.specs.declared.mode.Mode.{Mode}
-use Rattle.cb_macro.specs.declared.mode.Mode.TheVariants as mode
+use Rattle.cb_expand.specs.declared.mode.Mode.{Mode}
+use Rattle.cb_expand.specs.declared.mode.Mode.TheVariants as mode
 use Rattle.cb_macro.specs.Definitions.{Definition}
-use Rattle.cb_macro.specs.Standin.{Expands, IsDefineWord, IsUndefWord}
+use Rattle.cb_macro.specs.Standin.{IsDefineWord, IsUndefWord}
+use Rattle.cb_expand.specs.Expansion.{IsExpansion}
 use Rattle.cb_include.specs.declared.op.Op.{Op}
 use Rattle.cb_include.specs.declared.op.Op.TheVariants.{Define, Undef}
 use Rattle.cb_include.specs.declared.command.Command.{Command}
 use Rattle.cb_include.specs.declared.header.Header.{Header}
 use Rattle.cb_pass.specs.Headers.{header_of}
-use Rattle.cb_pass.specs.Macros.{Macros, cost_limit, IsExpansion, IsTooLong}
+use Rattle.cb_pass.specs.Macros.{Macros, cost_limit, IsReplacement, IsTooDear}
 use Rattle.cb_pass.specs.Answers.{Question, Nothing, Word, Truth, Named, Answer, Long, IsAnswered, IsWord, IsReplaced, IsTruth, IsNamed, defines_or_not, undefines_or_not, holds_or_not, named_or_not}
 use Rattle.cb_pass.specs.States.{State, Outcome, outcome}
 use Rattle.cb_pass.specs.Steps.{question}
@@ -25,7 +26,7 @@ use Rattle.cb_pass.specs.Passes.{Leads, over, goes, start, IsPass, is_over}
 -- what replacement makes of tokens, and what it costs, is one
 abbrev pub OneExpansion : Type 0
 OneExpansion = (macros : Macros) (mode : Mode) (tokens out other : List Token) (cost price : ℕ)
-    → Expands macros mode tokens out cost → Expands macros mode tokens other price → (out ≡ other) × (cost ≡ price)
+    → IsExpansion macros mode tokens out cost → IsExpansion macros mode tokens other price → (out ≡ other) × (cost ≡ price)
 
 -- a condition has one value
 abbrev pub OneCondition : Type 0
@@ -40,7 +41,7 @@ abbrev pub OneName : Type 0
 OneName = (word : List ℕ) (a b : Option (List ℕ)) → IsUndefWord word a → IsUndefWord word b → a ≡ b
 
 module _ (expansion : OneExpansion) (condition : OneCondition) (definition : OneDefinition) (name : OneName) where
-  not_both : (macros : Macros) (mode : Mode) (tokens out : List Token) → IsExpansion macros mode tokens out → IsTooLong macros mode tokens → ⊥
+  not_both : (macros : Macros) (mode : Mode) (tokens out : List Token) → IsReplacement macros mode tokens out → IsTooDear macros mode tokens → ⊥
   not_both macros mode tokens out e long = let h : cost_limit < e.0 = long out e.0 e.1 in let k : e.0 ≤ cost_limit = e.2 in omega arith
 
   one_replaced : (macros : Macros) (mode : Mode) (tokens : List Token) (Says : List Token → Answer → Type 0) (a b : Answer)

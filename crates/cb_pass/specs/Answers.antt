@@ -5,15 +5,15 @@ use Rattle.cb_tokens.specs.declared.token.Token.{Token}
 use Rattle.cb_cond.specs.declared.bad_condition.BadCondition.{BadCondition}
 use Rattle.cb_cond.specs.Symbols.{symbols}
 use Rattle.cb_cond.specs.Faults.{IsAnswer}
-use Rattle.cb_macro.specs.declared.mode.Mode.{Mode}
-use Rattle.cb_macro.specs.declared.mode.Mode.TheVariants as mode
+use Rattle.cb_expand.specs.declared.mode.Mode.{Mode}
+use Rattle.cb_expand.specs.declared.mode.Mode.TheVariants as mode
 use Rattle.cb_macro.specs.Definitions.{Definition}
 use Rattle.cb_macro.specs.Standin.{IsDefineWord, IsUndefWord}
 use Rattle.cb_include.specs.declared.op.Op.{Op}
 use Rattle.cb_include.specs.declared.op.Op.TheVariants.{Define, Undef}
 use Rattle.cb_include.specs.declared.header.Header.{Header}
 use Rattle.cb_pass.specs.Headers.{header_of}
-use Rattle.cb_pass.specs.Macros.{Macros, IsExpansion, IsTooLong}
+use Rattle.cb_pass.specs.Macros.{Macros, IsReplacement, IsTooDear}
 
 -- what is asked: nothing, what a word of -D or -U says, whether a condition holds, or which header is named (own)
 pub data Question : Type 0 where
@@ -52,7 +52,7 @@ IsWord (Undef word) answer = (name : Option (List ℕ)) × IsUndefWord word name
 -- what replacement makes of tokens says this, or it would cost too much (6.10.3; the limit is own)
 abbrev pub IsReplaced : Macros → Mode → List Token → (List Token → Answer → Type 0) → Answer → Type 0
 IsReplaced macros mode tokens Says answer =
-    ((out : List Token) × IsExpansion macros mode tokens out × Says out answer) ⊎ (IsTooLong macros mode tokens × (answer ≡ Long))
+    ((out : List Token) × IsReplacement macros mode tokens out × Says out answer) ⊎ (IsTooDear macros mode tokens × (answer ≡ Long))
 
 -- the answer by the value of a condition (6.10.1 paragraph 4)
 abbrev pub holds_or_not : Result Bool BadCondition → Answer

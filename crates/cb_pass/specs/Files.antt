@@ -1,16 +1,17 @@
 -- What a step of a pass asks of the files: the only place where a pass looks at them (6.10.2).
 use Rattle.std.specs.Prelude.{◌≡◌, ℕ, ◌+◌, ◌==◌, ◌&&◌, nat_lt, Bool, true, false, not, if◌then◌else◌, List, [], ◌∷◌, ◌++◌, length, Option, Some, None}
-use Rattle.std.specs.List.{list_any}
-use Rattle.std.specs.Str.{bytes_eq}
+use Rattle.std.specs.List.{find}
+use Rattle.std.specs.Option.{is_some}
 use Rattle.cb_tree.specs.declared.node.NodeKind.{NodeKind}
 use Rattle.cb_tree.specs.declared.node.NodeKind.TheVariants.{Include}
 use Rattle.cb_tree.specs.Skeleton.{Bone}
 use Rattle.cb_include.specs.declared.command.Command.{Command}
 use Rattle.cb_include.specs.declared.header.Header.{Header}
+use Rattle.cb_include.specs.Candidates.{candidates}
+use Rattle.cb_include.specs.Seen.{has_path, with_paths, up_to}
 use Rattle.cb_pass.specs.declared.limits.TheConstants.{DEPTH_LIMIT}
 use Rattle.cb_pass.specs.declared.note.NoteKind.TheVariants as note
 use Rattle.cb_pass.specs.Notes.{Place}
-use Rattle.cb_pass.specs.Candidates.{candidates}
 use Rattle.cb_pass.specs.Headers.{quote_header, spelled_header}
 use Rattle.cb_pass.specs.Answers.{Answer, Names}
 use Rattle.cb_pass.specs.States.{Frame, Waiting, Given, Forced, Main, State}
@@ -73,40 +74,16 @@ abbrev pub entering : List ℕ → ℕ → Option (List Bone) → State → Stat
 entering path depth None s = s
 entering path depth (Some bones) s = record s { frames = first_frame path depth bones ∷ s.frames }
 
--- the path where it is present, else what is found behind it (GCC's manual, "Options for Directory Search")
-abbrev pub present_or : Option (List Bone) → List ℕ → Option (List ℕ) → Option (List ℕ)
-present_or None path behind = behind
-present_or (Some bones) path behind = Some path
-
--- the first path that is present (GCC's manual, "Options for Directory Search")
-abbrev pub first_present : Files → List (List ℕ) → Option (List ℕ)
-first_present files [] = None
-first_present files (path ∷ paths) = present_or (files path) path (first_present files paths)
-
--- the path, and what is looked at behind it where it is absent (own)
-abbrev pub up_to_present : Option (List Bone) → List ℕ → List (List ℕ) → List (List ℕ)
-up_to_present None path behind = path ∷ behind
-up_to_present (Some bones) path behind = path ∷ []
-
--- the paths up to the first that is present; all where none is (own)
-abbrev pub looked_at : Files → List (List ℕ) → List (List ℕ)
-looked_at files [] = []
-looked_at files (path ∷ paths) = up_to_present (files path) path (looked_at files paths)
-
--- the probes with one more, unless it is there (own)
-unfoldable pub with_probe : List ℕ → List (List ℕ) → List (List ℕ)
-with_probe path probes = if list_any (bytes_eq path) probes then probes else probes ++ path ∷ []
-
-abbrev pub with_probes : List (List ℕ) → List (List ℕ) → List (List ℕ)
-with_probes [] probes = probes
-with_probes (path ∷ paths) probes = with_probes paths (with_probe path probes)
+-- the file at a path is present
+abbrev pub is_present : Files → List ℕ → Bool
+is_present files path = is_some (files path)
 
 -- what is done with the path that a search found: none is noted; one that is not to be entered again is passed over; the depth
 -- is looked at then (6.10.2; the order is own)
 abbrev pub found_path : Files → Place → ℕ → Header → Option (List ℕ) → State → State
 found_path files place depth header None s = with_note place note.Missing (spelled_header header) s
 found_path files place depth header (Some path) s =
-    if s.once path then s
+    if has_path s.once path then s
     else (if nat_lt DEPTH_LIMIT depth then with_note place note.TooDeep [] s else entering path depth (files path) s)
 
 -- a state in which a request is met (6.10.2)
@@ -115,7 +92,7 @@ met files command Stays s = s
 met files command Begins s = entering command.main 0 (files command.main) s
 met files command (Searches from place depth header) s =
     let paths = candidates command from header in
-    found_path files place depth header (first_present files paths) (record s { probes = with_probes (looked_at files paths) s.probes })
+    found_path files place depth header (find (is_present files) paths) (record s { probes = with_paths s.probes (up_to (is_present files) paths) })
 
 -- a state one step on, with the answer to its question (own)
 abbrev pub stepped : Files → Command → Answer → State → State

@@ -2,7 +2,6 @@ pub mod Sections
 pub mod Notes
 pub mod Headers
 pub mod Macros
-pub mod Candidates
 pub mod Answers
 pub mod States
 pub mod Steps

@@ -13,6 +13,7 @@ use Rattle.cb_macro.specs.Definitions.{Definition, defines, undefines}
 use Rattle.cb_macro.specs.Maps.{found}
 use Rattle.cb_macro.specs.Standin.{differs_from}
 use Rattle.cb_include.specs.declared.op.Op.{Op}
+use Rattle.cb_include.specs.Seen.{with_path}
 use Rattle.cb_include.specs.declared.op.Op.TheVariants as op
 use Rattle.cb_pass.specs.declared.limits.TheConstants.{NODE_LIMIT}
 use Rattle.cb_pass.specs.declared.section.Section.{Section}
@@ -94,15 +95,23 @@ abbrev pub truth : Answer → Bool
 truth (Holds holds) = holds
 truth _ = false
 
--- the open sections behind a node of the kind (6.10.1 paragraph 6)
-abbrev pub sections_behind : NodeKind → List Token → Macros → Answer → List Section → List Section
-sections_behind If rest macros answer sections = entered (truth answer) sections
-sections_behind Ifdef rest macros answer sections = entered (has_macro (first_name rest) macros) sections
-sections_behind Ifndef rest macros answer sections = entered (lacks_macro (first_name rest) macros) sections
-sections_behind Elif rest macros answer sections = continued (truth answer) sections
-sections_behind Else rest macros answer sections = turned sections
-sections_behind Endif rest macros answer sections = closed sections
-sections_behind _ rest macros answer sections = sections
+-- the condition of a directive of the kind holds (6.10.1)
+abbrev pub holds_at : NodeKind → List Token → Macros → Answer → Bool
+holds_at If rest macros answer = truth answer
+holds_at Ifdef rest macros answer = has_macro (first_name rest) macros
+holds_at Ifndef rest macros answer = lacks_macro (first_name rest) macros
+holds_at Elif rest macros answer = truth answer
+holds_at _ rest macros answer = false
+
+-- the open sections behind a node of the kind, with its condition (6.10.1 paragraph 6)
+abbrev pub sections_behind : NodeKind → Bool → List Section → List Section
+sections_behind If condition sections = entered condition sections
+sections_behind Ifdef condition sections = entered condition sections
+sections_behind Ifndef condition sections = entered condition sections
+sections_behind Elif condition sections = continued condition sections
+sections_behind Else condition sections = turned sections
+sections_behind Endif condition sections = closed sections
+sections_behind _ condition sections = sections
 
 -- a state with a note (own)
 abbrev pub with_note : Place → NoteKind → List ℕ → State → State
@@ -136,10 +145,6 @@ answer_noted place Nameless s = with_note place note.BadInclude [] s
 answer_noted place Long s = with_note place note.TooLong [] s
 answer_noted place _ s = s
 
--- the paths with one more
-abbrev pub with_path : List ℕ → (List ℕ → Bool) → List ℕ → Bool
-with_path path paths p = bytes_eq p path || paths p
-
 -- what a directive of the kind does, but for the file that it includes (6.10.1 to 6.10.6)
 abbrev pub effect : NodeKind → Place → List Token → Answer → State → State
 effect If place rest answer s = answer_noted place answer s
@@ -149,7 +154,7 @@ effect Elif place rest answer s = answer_noted place answer s
 effect Define place rest answer s = defined place (defines rest) s
 effect Undef place rest answer s = undefined place (undefines rest) s
 effect Include place rest answer s = answer_noted place answer s
-effect Once place rest answer s = record s { once = with_path place.path s.once }
+effect Once place rest answer s = record s { once = with_path s.once place.path }
 effect Error place rest answer s = with_note place note.ErrorReached [] s
 effect _ place rest answer s = s
 
@@ -174,7 +179,7 @@ behind_node f rest sections = record f { node = suc f.node; rest = rest; section
 abbrev pub behind : Answer → Frame → Bone → List Bone → List Frame → State → State
 behind answer f b bs fs s =
     let entered_state = counted (is_reached b.kind f.sections) (place_in f)
-          (record s { frames = behind_node f bs (sections_behind b.kind (rest_of b.tokens) s.macros answer f.sections) ∷ fs }) in
+          (record s { frames = behind_node f bs (sections_behind b.kind (holds_at b.kind (rest_of b.tokens) s.macros answer) f.sections) ∷ fs }) in
     if is_active b.kind f.sections then effect b.kind (place_in f) (rest_of b.tokens) answer entered_state else entered_state
 
 -- the pass ends where one node too many would be reached (own)

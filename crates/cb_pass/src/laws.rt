@@ -6,7 +6,8 @@ ghost use Rattle.cb_pass.specs.Files.{Files, Agree};
 ghost use Rattle.cb_pass.specs.Passes.{IsPass};
 
 use cb_cond::one_condition;
-use cb_macro::{one_expansion, one_word};
+use cb_expand::one_expansion;
+use cb_macro::one_word;
 
 /// The pass of a command over files has one outcome.
 pub fn one_pass()
