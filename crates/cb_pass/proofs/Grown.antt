@@ -8,13 +8,12 @@ use Rattle.cb_tree.specs.declared.node.NodeKind.{NodeKind}
 use Rattle.cb_tree.specs.declared.node.NodeKind.TheVariants.{Text, If, Ifdef, Ifndef, Elif, Else, Endif, Define, Undef, Include, Once, Error, Other}
 use Rattle.cb_tree.specs.Skeleton.{Bone}
 use Rattle.cb_tree.specs.Kinds.{rest_of}
-use Rattle.cb_macro.specs.Definitions.{Definition, defines, undefines}
 use Rattle.cb_include.specs.declared.command.Command.{Command}
 use Rattle.cb_include.specs.declared.header.Header.{Header}
 use Rattle.cb_pass.specs.Notes.{Place}
 use Rattle.cb_pass.specs.Answers.{Answer, Silent, Defines, Undefines, Wordless, Holds, Faulty, Names, Nameless, Long, IsAnswered}
 use Rattle.cb_pass.specs.States.{Frame, Waiting, Given, Forced, Main, State, Outcome, outcome}
-use Rattle.cb_pass.specs.Steps.{first_name, answer_noted, name_noted, defined, undefined, effect, counted, behind, turned_frame, word_effect, word_of, turned_waiting, turned_in, is_active, is_reached, is_spent, place_in, behind_node, sections_behind, holds_at, ended}
+use Rattle.cb_pass.specs.Steps.{first_name, answered, name_noted, effect, counted, behind, turned_frame, word_of, turned_waiting, turned_in, is_active, is_reached, is_spent, place_in, behind_node, sections_behind, holds_at, ended}
 use Rattle.cb_include.specs.Candidates.{candidates}
 use Rattle.cb_include.specs.Seen.{has_path, with_path, with_paths, up_to}
 use Rattle.cb_pass.specs.Files.{Files, Request, Stays, Begins, Searches, request, start_of, entering, is_present, found_path, met, stepped}
@@ -51,40 +50,32 @@ either_probes : (test : Bool) (s t : State) (paths : List (List ℕ)) → s.prob
 either_probes true s t paths p q = p
 either_probes false s t paths p q = q
 
-answer_noted_probes : (place : Place) (answer : Answer) (s : State) → (answer_noted place answer s).probes ≡ s.probes
-answer_noted_probes place Silent s = refl
-answer_noted_probes place (Defines name d) s = refl
-answer_noted_probes place (Undefines name) s = refl
-answer_noted_probes place Wordless s = refl
-answer_noted_probes place (Holds holds) s = refl
-answer_noted_probes place (Faulty bad) s = refl
-answer_noted_probes place (Names h) s = refl
-answer_noted_probes place Nameless s = refl
-answer_noted_probes place Long s = refl
+answered_probes : (place : Place) (word : List ℕ) (answer : Answer) (s : State) → (answered place word answer s).probes ≡ s.probes
+answered_probes place word Silent s = refl
+answered_probes place word (Defines name d different) s = refl
+answered_probes place word (Undefines name) s = refl
+answered_probes place word Wordless s = refl
+answered_probes place word (Holds holds) s = refl
+answered_probes place word (Faulty bad) s = refl
+answered_probes place word (Names h) s = refl
+answered_probes place word Nameless s = refl
+answered_probes place word Long s = refl
 
 name_noted_probes : (place : Place) (name : Option (List ℕ)) (s : State) → (name_noted place name s).probes ≡ s.probes
 name_noted_probes place None s = refl
 name_noted_probes place (Some name) s = refl
 
-defined_probes : (place : Place) (d : Option (List ℕ × Definition)) (s : State) → (defined place d s).probes ≡ s.probes
-defined_probes place None s = refl
-defined_probes place (Some d) s = refl
-
-undefined_probes : (place : Place) (name : Option (List ℕ)) (s : State) → (undefined place name s).probes ≡ s.probes
-undefined_probes place None s = refl
-undefined_probes place (Some name) s = refl
-
 effect_probes : (kind : NodeKind) (place : Place) (rest : List Token) (answer : Answer) (s : State) → (effect kind place rest answer s).probes ≡ s.probes
 effect_probes Text place rest answer s = refl
-effect_probes If place rest answer s = answer_noted_probes place answer s
+effect_probes If place rest answer s = answered_probes place [] answer s
 effect_probes Ifdef place rest answer s = name_noted_probes place (first_name rest) s
 effect_probes Ifndef place rest answer s = name_noted_probes place (first_name rest) s
-effect_probes Elif place rest answer s = answer_noted_probes place answer s
+effect_probes Elif place rest answer s = answered_probes place [] answer s
 effect_probes Else place rest answer s = refl
 effect_probes Endif place rest answer s = refl
-effect_probes Define place rest answer s = defined_probes place (defines rest) s
-effect_probes Undef place rest answer s = undefined_probes place (undefines rest) s
-effect_probes Include place rest answer s = answer_noted_probes place answer s
+effect_probes Define place rest answer s = answered_probes place [] answer s
+effect_probes Undef place rest answer s = answered_probes place [] answer s
+effect_probes Include place rest answer s = answered_probes place [] answer s
 effect_probes Once place rest answer s = refl
 effect_probes Error place rest answer s = refl
 effect_probes Other place rest answer s = refl
@@ -107,20 +98,9 @@ turned_frame_probes answer f (b ∷ bs) fs s =
     either_probes (is_spent b.kind f.sections s.count) (ended (place_in f) s) (behind answer f b bs fs s) s.probes refl
     (behind_probes answer f b bs fs s)
 
-word_effect_probes : (place : Place) (word : List ℕ) (answer : Answer) (s : State) → (word_effect place word answer s).probes ≡ s.probes
-word_effect_probes place word Silent s = refl
-word_effect_probes place word (Defines name d) s = refl
-word_effect_probes place word (Undefines name) s = refl
-word_effect_probes place word Wordless s = refl
-word_effect_probes place word (Holds holds) s = refl
-word_effect_probes place word (Faulty bad) s = refl
-word_effect_probes place word (Names h) s = refl
-word_effect_probes place word Nameless s = refl
-word_effect_probes place word Long s = refl
-
 turned_waiting_probes : (place : Place) (answer : Answer) (waiting : List Waiting) (s : State) → (turned_waiting place answer waiting s).probes ≡ s.probes
 turned_waiting_probes place answer [] s = refl
-turned_waiting_probes place answer (Given op ∷ ws) s = word_effect_probes place (word_of op) answer (record s { waiting = ws })
+turned_waiting_probes place answer (Given op ∷ ws) s = answered_probes place (word_of op) answer (record s { waiting = ws })
 turned_waiting_probes place answer (Forced text ∷ ws) s = either_probes _ _ _ s.probes refl refl
 turned_waiting_probes place answer (Main ∷ ws) s = refl
 

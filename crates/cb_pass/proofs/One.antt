@@ -1,6 +1,6 @@
 -- A pass has one outcome.
 use Rattle.std.proofs.Common.{◌≡◌, ℕ, ◌<◌, ◌≤◌, Bool, true, false, List, [], ◌∷◌, refl, sym, ap, subst, ◌∙◌, inl, inr, arith}
-use Rattle.std.specs.Prelude.{Option, Some, None, Result, ◌⊎◌}
+use Rattle.std.specs.Prelude.{Option, Some, None, Result, ◌⊎◌, option_and_then}
 use Rattle.cb_paths.specs.declared.language.Language.{Language}
 use Rattle.cb_tokens.specs.declared.token.Token.{Token}
 use Rattle.cb_cond.specs.declared.bad_condition.BadCondition.{BadCondition}
@@ -8,8 +8,13 @@ use Rattle.cb_cond.specs.Symbols.{symbols}
 use Rattle.cb_cond.specs.Faults.{IsAnswer}
 use Rattle.cb_expand.specs.declared.mode.Mode.{Mode}
 use Rattle.cb_expand.specs.declared.mode.Mode.TheVariants as mode
-use Rattle.cb_macro.specs.Definitions.{Definition}
-use Rattle.cb_macro.specs.Standin.{IsDefineWord, IsUndefWord}
+use Rattle.cb_macro.specs.Definitions.{Definition, defines, undefines}
+use Rattle.cb_macro.specs.Maps.{found, IsChange}
+use Rattle.cb_macro.specs.Words.{AreLogicalLines, first_line, definition_text, first_tokens, WordDefines, WordUndefines}
+use Rattle.cb_lines.specs.declared.mark.Mark.{Mark}
+use Rattle.cb_lines.specs.Marks.{marks_of}
+use Rattle.cb_tokens.specs.Cut.{Piece, IsCut, HasOpenComment}
+use Rattle.cb_tokens.specs.Logical.{Line, AreLinesOf}
 use Rattle.cb_expand.specs.Expansion.{IsExpansion}
 use Rattle.cb_include.specs.declared.op.Op.{Op}
 use Rattle.cb_include.specs.declared.op.Op.TheVariants.{Define, Undef}
@@ -17,7 +22,7 @@ use Rattle.cb_include.specs.declared.command.Command.{Command}
 use Rattle.cb_include.specs.declared.header.Header.{Header}
 use Rattle.cb_pass.specs.Headers.{header_of}
 use Rattle.cb_pass.specs.Macros.{Macros, cost_limit, IsReplacement, IsTooDear}
-use Rattle.cb_pass.specs.Answers.{Question, Nothing, Word, Truth, Named, Answer, Long, IsAnswered, IsWord, IsReplaced, IsTruth, IsNamed, defines_or_not, undefines_or_not, holds_or_not, named_or_not}
+use Rattle.cb_pass.specs.Answers.{Question, Nothing, Word, Defining, Undefining, Truth, Named, Answer, Defines, Long, IsAnswered, IsDefinition, IsWord, IsReplaced, IsTruth, IsNamed, undefines_or_not, holds_or_not, named_or_not}
 use Rattle.cb_pass.specs.States.{State, Outcome, outcome}
 use Rattle.cb_pass.specs.Steps.{question}
 use Rattle.cb_pass.specs.Files.{Files, stepped}
@@ -33,14 +38,14 @@ abbrev pub OneCondition : Type 0
 OneCondition = (language : Language) (tokens : List Token) (a b : Result Bool BadCondition)
     → IsAnswer (symbols language tokens) a → IsAnswer (symbols language tokens) b → a ≡ b
 
--- a word defines one thing, or undefines one name
-abbrev pub OneDefinition : Type 0
-OneDefinition = (word : List ℕ) (a b : Option (List ℕ × Definition)) → IsDefineWord word a → IsDefineWord word b → a ≡ b
+-- marks have one cut at most, and none where a comment is open
+abbrev pub OneCut : Type 0
+OneCut = (ms : List Mark) (a b : List Line) → AreLinesOf ms a → AreLinesOf ms b → a ≡ b
 
-abbrev pub OneName : Type 0
-OneName = (word : List ℕ) (a b : Option (List ℕ)) → IsUndefWord word a → IsUndefWord word b → a ≡ b
+abbrev pub NoCut : Type 0
+NoCut = (ms : List Mark) (ps : List Piece) (line : ℕ) → IsCut ms ps → HasOpenComment ms line → ⊥
 
-module _ (expansion : OneExpansion) (condition : OneCondition) (definition : OneDefinition) (name : OneName) where
+module _ (expansion : OneExpansion) (condition : OneCondition) (cut : OneCut) (no_cut : NoCut) where
   not_both : (macros : Macros) (mode : Mode) (tokens out : List Token) → IsReplacement macros mode tokens out → IsTooDear macros mode tokens → ⊥
   not_both macros mode tokens out e long = let h : cost_limit < e.0 = long out e.0 e.1 in let k : e.0 ≤ cost_limit = e.2 in omega arith
 
@@ -57,9 +62,36 @@ module _ (expansion : OneExpansion) (condition : OneCondition) (definition : One
   one_truth : (language : Language) (a b : Answer) (tokens : List Token) → IsTruth language tokens a → IsTruth language tokens b → a ≡ b
   one_truth language a b tokens x y = x.2 ∙ (ap holds_or_not (condition language tokens x.0 y.0 x.1 y.1) ∙ sym y.2)
 
-  one_word : (op : Op) (a b : Answer) → IsWord op a → IsWord op b → a ≡ b
-  one_word (Define word) a b x y = x.2 ∙ (ap defines_or_not (definition word x.0 y.0 x.1 y.1) ∙ sym y.2)
-  one_word (Undef word) a b x y = x.2 ∙ (ap undefines_or_not (name word x.0 y.0 x.1 y.1) ∙ sym y.2)
+  one_lines : (text : List ℕ) (a b : Option (List Line)) → AreLogicalLines text a → AreLogicalLines text b → a ≡ b
+  one_lines text None None x y = refl
+  one_lines text None (Some b) x y = absurd (no_cut (marks_of text) y.0 x.0 y.1 x.1)
+  one_lines text (Some a) None x y = absurd (no_cut (marks_of text) x.0 y.0 x.1 y.1)
+  one_lines text (Some a) (Some b) x y = ap Some (cut (marks_of text) a b x y)
+
+  one_change : (before : Option Definition) (d : Definition) (a b : Bool) → IsChange before d a → IsChange before d b → a ≡ b
+  one_change None d a b x y = x ∙ sym y
+  one_change (Some other) d true true x y = refl
+  one_change (Some other) d true false x y = absurd (x y)
+  one_change (Some other) d false true x y = absurd (y x)
+  one_change (Some other) d false false x y = refl
+
+  one_definition : (macros : Macros) (d : Option (List ℕ × Definition)) (a b : Answer) → IsDefinition macros d a → IsDefinition macros d b → a ≡ b
+  one_definition macros None a b x y = x ∙ sym y
+  one_definition macros (Some d) a b x y =
+      x.2 ∙ (ap (Defines d.0 d.1) (one_change (found macros d.0) d.1 x.0 y.0 x.1 y.1) ∙ sym y.2)
+
+  one_defined : (word : List ℕ) (a b : Option (List ℕ × Definition)) → WordDefines word a → WordDefines word b → a ≡ b
+  one_defined word a b x y =
+      x.2 ∙ (ap (λ (lines : Option (List Line)). option_and_then (λ ls. defines (first_tokens ls)) lines) (one_lines (definition_text word) x.0 y.0 x.1 y.1) ∙ sym y.2)
+
+  one_undefined : (word : List ℕ) (a b : Option (List ℕ)) → WordUndefines word a → WordUndefines word b → a ≡ b
+  one_undefined word a b x y =
+      x.2 ∙ (ap (λ (lines : Option (List Line)). option_and_then (λ ls. undefines (first_tokens ls)) lines) (one_lines (first_line word) x.0 y.0 x.1 y.1) ∙ sym y.2)
+
+  one_word : (macros : Macros) (op : Op) (a b : Answer) → IsWord macros op a → IsWord macros op b → a ≡ b
+  one_word macros (Define word) a b x y =
+      one_definition macros y.0 a b (subst (λ (d : Option (List ℕ × Definition)). IsDefinition macros d a) (one_defined word x.0 y.0 x.1 y.1) x.2) y.2
+  one_word macros (Undef word) a b x y = x.2 ∙ (ap undefines_or_not (one_undefined word x.0 y.0 x.1 y.1) ∙ sym y.2)
 
   one_named : (macros : Macros) (tokens : List Token) (header : Option Header) (a b : Answer) → IsNamed macros tokens header a → IsNamed macros tokens header b → a ≡ b
   one_named macros tokens (Some h) a b x y = x ∙ sym y
@@ -69,7 +101,9 @@ module _ (expansion : OneExpansion) (condition : OneCondition) (definition : One
   one_answer : (language : Language) (macros : Macros) (question : Question) (a b : Answer)
       → IsAnswered language macros question a → IsAnswered language macros question b → a ≡ b
   one_answer language macros Nothing a b x y = x ∙ sym y
-  one_answer language macros (Word op) a b x y = one_word op a b x y
+  one_answer language macros (Word op) a b x y = one_word macros op a b x y
+  one_answer language macros (Defining tokens) a b x y = one_definition macros (defines tokens) a b x y
+  one_answer language macros (Undefining tokens) a b x y = x ∙ sym y
   one_answer language macros (Truth tokens) a b x y = one_replaced macros mode.Condition tokens (IsTruth language) a b (one_truth language a b) x y
   one_answer language macros (Named tokens) a b x y = one_named macros tokens (header_of tokens) a b x y
 

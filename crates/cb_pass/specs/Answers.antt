@@ -5,28 +5,32 @@ use Rattle.cb_tokens.specs.declared.token.Token.{Token}
 use Rattle.cb_cond.specs.declared.bad_condition.BadCondition.{BadCondition}
 use Rattle.cb_cond.specs.Symbols.{symbols}
 use Rattle.cb_cond.specs.Faults.{IsAnswer}
+use Rattle.cb_macro.specs.Definitions.{Definition, defines, undefines}
+use Rattle.cb_macro.specs.Maps.{found, IsChange}
+use Rattle.cb_macro.specs.Words.{WordDefines, WordUndefines}
 use Rattle.cb_expand.specs.declared.mode.Mode.{Mode}
 use Rattle.cb_expand.specs.declared.mode.Mode.TheVariants as mode
-use Rattle.cb_macro.specs.Definitions.{Definition}
-use Rattle.cb_macro.specs.Standin.{IsDefineWord, IsUndefWord}
 use Rattle.cb_include.specs.declared.op.Op.{Op}
 use Rattle.cb_include.specs.declared.op.Op.TheVariants.{Define, Undef}
 use Rattle.cb_include.specs.declared.header.Header.{Header}
 use Rattle.cb_pass.specs.Headers.{header_of}
 use Rattle.cb_pass.specs.Macros.{Macros, IsReplacement, IsTooDear}
 
--- what is asked: nothing, what a word of -D or -U says, whether a condition holds, or which header is named (own)
+-- what is asked: nothing; what a word of -D or -U says, what tokens behind #define or #undef say; whether tokens hold as a
+-- condition; which header they name (own)
 pub data Question : Type 0 where
   Nothing : Question
   Word : Op → Question
+  Defining : List Token → Question
+  Undefining : List Token → Question
   Truth : List Token → Question
   Named : List Token → Question
 
--- the answers: none; a definition, a name, or neither; that a condition holds or not, or its fault; a header or none; that
--- replacement would cost too much (own)
+-- the answers: none; a definition, and whether a different one stood; a name to undefine; neither; that a condition holds or
+-- not, or its fault; a header or none; that replacement would cost too much (own)
 pub data Answer : Type 0 where
   Silent : Answer
-  Defines : List ℕ → Definition → Answer
+  Defines : List ℕ → Definition → Bool → Answer
   Undefines : List ℕ → Answer
   Wordless : Answer
   Holds : Bool → Answer
@@ -35,19 +39,20 @@ pub data Answer : Type 0 where
   Nameless : Answer
   Long : Answer
 
--- the answer by what -D or -U says (own)
-abbrev pub defines_or_not : Option (List ℕ × Definition) → Answer
-defines_or_not None = Wordless
-defines_or_not (Some d) = Defines d.0 d.1
+-- the answer where this is defined, or nothing (6.10.3 paragraph 2)
+abbrev pub IsDefinition : Macros → Option (List ℕ × Definition) → Answer → Type 0
+IsDefinition macros None answer = answer ≡ Wordless
+IsDefinition macros (Some d) answer = (different : Bool) × IsChange (found macros d.0) d.1 different × (answer ≡ Defines d.0 d.1 different)
 
+-- the answer where this name is undefined, or none (6.10.3.5 paragraph 2)
 abbrev pub undefines_or_not : Option (List ℕ) → Answer
 undefines_or_not None = Wordless
 undefines_or_not (Some name) = Undefines name
 
--- what a word says (own)
-abbrev pub IsWord : Op → Answer → Type 0
-IsWord (Define word) answer = (d : Option (List ℕ × Definition)) × IsDefineWord word d × (answer ≡ defines_or_not d)
-IsWord (Undef word) answer = (name : Option (List ℕ)) × IsUndefWord word name × (answer ≡ undefines_or_not name)
+-- what a word says (GCC's manual, "Options Controlling the Preprocessor")
+abbrev pub IsWord : Macros → Op → Answer → Type 0
+IsWord macros (Define word) answer = (d : Option (List ℕ × Definition)) × WordDefines word d × IsDefinition macros d answer
+IsWord macros (Undef word) answer = (name : Option (List ℕ)) × WordUndefines word name × (answer ≡ undefines_or_not name)
 
 -- what replacement makes of tokens says this, or it would cost too much (6.10.3; the limit is own)
 abbrev pub IsReplaced : Macros → Mode → List Token → (List Token → Answer → Type 0) → Answer → Type 0
@@ -76,6 +81,8 @@ IsNamed macros tokens None answer = IsReplaced macros mode.Plain tokens (λ out 
 -- the answer to a question (own)
 abbrev pub IsAnswered : Language → Macros → Question → Answer → Type 0
 IsAnswered language macros Nothing answer = answer ≡ Silent
-IsAnswered language macros (Word op) answer = IsWord op answer
+IsAnswered language macros (Word op) answer = IsWord macros op answer
+IsAnswered language macros (Defining tokens) answer = IsDefinition macros (defines tokens) answer
+IsAnswered language macros (Undefining tokens) answer = answer ≡ undefines_or_not (undefines tokens)
 IsAnswered language macros (Truth tokens) answer = IsReplaced macros mode.Condition tokens (IsTruth language) answer
 IsAnswered language macros (Named tokens) answer = IsNamed macros tokens (header_of tokens) answer

@@ -1,4 +1,5 @@
 pub mod Sections
+pub mod Kinds
 pub mod Notes
 pub mod Headers
 pub mod Macros
@@ -7,3 +8,6 @@ pub mod States
 pub mod Steps
 pub mod Files
 pub mod Passes
+pub mod Reached
+pub mod Meters
+pub mod Maps

@@ -1,7 +1,5 @@
 -- The macros of a pass, and what they make of tokens.
 use Rattle.std.specs.Prelude.{ℕ, ◌≤◌, List}
-use Rattle.std.specs.Str.{bytes_eq}
-use Rattle.indexmap.specs.IndexMap.{insert_entry, swap_remove_entry}
 use Rattle.cb_tokens.specs.declared.token.Token.{Token}
 use Rattle.cb_macro.specs.Definitions.{Definition}
 use Rattle.cb_expand.specs.declared.mode.Mode.{Mode}
@@ -10,14 +8,6 @@ use Rattle.cb_expand.specs.Expansion.{IsExpansion, IsTooLong}
 -- the macros: names with their definitions (6.10.3)
 abbrev pub Macros : Type 0
 Macros = List (List ℕ × Definition)
-
--- the macros with a definition of a name, which takes the place of an earlier one (6.10.3 paragraph 9)
-abbrev pub with_macro : List ℕ → Definition → Macros → Macros
-with_macro name definition macros = insert_entry bytes_eq macros name definition
-
--- the macros without a name, whose place the last of them takes (6.10.3.5 paragraph 2; the place is own)
-abbrev pub without_macro : List ℕ → Macros → Macros
-without_macro name macros = swap_remove_entry (bytes_eq name) macros
 
 -- the most that one replacement may cost (own)
 abbrev pub cost_limit : ℕ

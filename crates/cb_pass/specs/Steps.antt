@@ -2,6 +2,7 @@
 use Rattle.std.specs.Prelude.{ℕ, ◌+◌, ◌==◌, ◌&&◌, ◌||◌, nat_le, nat_lt, Bool, true, false, not, if◌then◌else◌, List, [], ◌∷◌, length, Option, Some, None, codes}
 use Prim.Native.Nat.{suc}
 use Rattle.std.specs.Str.{bytes_eq}
+use Rattle.std.specs.Option.{is_some}
 use Rattle.cb_tokens.specs.declared.token.Token.{Token}
 use Rattle.cb_tokens.specs.Kinds.{is_identifier_kind}
 use Rattle.cb_tree.specs.declared.node.NodeKind.{NodeKind}
@@ -9,9 +10,7 @@ use Rattle.cb_tree.specs.declared.node.NodeKind.TheVariants.{Text, If, Ifdef, If
 use Rattle.cb_tree.specs.Kinds.{rest_of}
 use Rattle.cb_tree.specs.Skeleton.{Bone}
 use Rattle.cb_cond.specs.Faults.{fault_name}
-use Rattle.cb_macro.specs.Definitions.{Definition, defines, undefines}
-use Rattle.cb_macro.specs.Maps.{found}
-use Rattle.cb_macro.specs.Standin.{differs_from}
+use Rattle.cb_macro.specs.Maps.{found, with_definition, without}
 use Rattle.cb_include.specs.declared.op.Op.{Op}
 use Rattle.cb_include.specs.Seen.{with_path}
 use Rattle.cb_include.specs.declared.op.Op.TheVariants as op
@@ -21,8 +20,8 @@ use Rattle.cb_pass.specs.declared.note.NoteKind.{NoteKind}
 use Rattle.cb_pass.specs.declared.note.NoteKind.TheVariants as note
 use Rattle.cb_pass.specs.Sections.{is_live, is_before_live, may_be_taken, entered, continued, turned, closed}
 use Rattle.cb_pass.specs.Notes.{Place, note_at, noted}
-use Rattle.cb_pass.specs.Macros.{Macros, with_macro, without_macro}
-use Rattle.cb_pass.specs.Answers.{Question, Nothing, Word, Truth, Named, Answer, Silent, Defines, Undefines, Wordless, Holds, Faulty, Names, Nameless, Long}
+use Rattle.cb_pass.specs.Macros.{Macros}
+use Rattle.cb_pass.specs.Answers.{Question, Nothing, Word, Defining, Undefining, Truth, Named, Answer, Silent, Defines, Undefines, Wordless, Holds, Faulty, Names, Nameless, Long}
 use Rattle.cb_pass.specs.States.{Frame, Waiting, Given, Forced, Main, State}
 
 -- a node of the kind is reached here: #elif, #else and #endif where their section stands in live text (own), any other in
@@ -39,10 +38,12 @@ abbrev pub is_active : NodeKind → List Section → Bool
 is_active Elif sections = may_be_taken sections
 is_active _ sections = is_live sections
 
--- what a directive asks (6.10.1, 6.10.2)
+-- what a directive asks (6.10.1 to 6.10.3)
 abbrev pub question_of : NodeKind → List Token → Question
 question_of If rest = Truth rest
 question_of Elif rest = Truth rest
+question_of Define rest = Defining rest
+question_of Undef rest = Undefining rest
 question_of Include rest = Named rest
 question_of _ rest = Nothing
 
@@ -76,19 +77,14 @@ abbrev pub first_name : List Token → Option (List ℕ)
 first_name [] = None
 first_name (t ∷ ts) = if is_identifier_kind t.kind then Some t.text else None
 
--- a macro of the name is defined (6.10.1 paragraph 5)
-abbrev pub is_defined : Option Definition → Bool
-is_defined None = false
-is_defined (Some definition) = true
-
 -- #ifdef and #ifndef by the identifier that stands first; without one they are false (6.10.1 paragraph 5; false is own)
 abbrev pub has_macro : Option (List ℕ) → Macros → Bool
 has_macro None macros = false
-has_macro (Some name) macros = is_defined (found name macros)
+has_macro (Some name) macros = is_some (found macros name)
 
 abbrev pub lacks_macro : Option (List ℕ) → Macros → Bool
 lacks_macro None macros = false
-lacks_macro (Some name) macros = not (is_defined (found name macros))
+lacks_macro (Some name) macros = not (is_some (found macros name))
 
 -- a condition with a fault is false (own)
 abbrev pub truth : Answer → Bool
@@ -117,43 +113,34 @@ sections_behind _ condition sections = sections
 abbrev pub with_note : Place → NoteKind → List ℕ → State → State
 with_note place kind detail s = record s { notes = noted (note_at place kind detail) s.notes }
 
--- a macro is defined; where another definition of it stood, that is noted (6.10.3 paragraph 2)
-abbrev pub with_definition : Place → List ℕ → Definition → State → State
-with_definition place name definition s = record s {
-  macros = with_macro name definition s.macros;
-  notes = if differs_from (found name s.macros) definition then noted (note_at place note.Redefined name) s.notes else s.notes;
-}
-
-abbrev pub defined : Place → Option (List ℕ × Definition) → State → State
-defined place None s = with_note place note.BadDefine [] s
-defined place (Some d) s = with_definition place d.0 d.1 s
-
--- a macro is defined no more (6.10.3.5 paragraph 2)
-abbrev pub undefined : Place → Option (List ℕ) → State → State
-undefined place None s = with_note place note.BadDefine [] s
-undefined place (Some name) s = record s { macros = without_macro name s.macros }
-
 -- #ifdef and #ifndef without an identifier are malformed (6.10.1 paragraph 5)
 abbrev pub name_noted : Place → Option (List ℕ) → State → State
 name_noted place None s = with_note place note.BadCondition (codes "Malformed") s
 name_noted place (Some name) s = s
 
--- the note of an answer; of a header that is named it comes with the search (own)
-abbrev pub answer_noted : Place → Answer → State → State
-answer_noted place (Faulty bad) s = with_note place note.BadCondition (fault_name bad) s
-answer_noted place Nameless s = with_note place note.BadInclude [] s
-answer_noted place Long s = with_note place note.TooLong [] s
-answer_noted place _ s = s
+-- what an answer does, where a note on a word tells this detail; a header that is named is looked for later (6.10.3 paragraph 9,
+-- 6.10.3.5 paragraph 2; the notes are own)
+abbrev pub answered : Place → List ℕ → Answer → State → State
+answered place word (Defines name definition different) s = record s {
+  macros = with_definition name definition s.macros;
+  notes = if different then noted (note_at place note.Redefined name) s.notes else s.notes;
+}
+answered place word (Undefines name) s = record s { macros = without name s.macros }
+answered place word Wordless s = with_note place note.BadDefine word s
+answered place word (Faulty bad) s = with_note place note.BadCondition (fault_name bad) s
+answered place word Nameless s = with_note place note.BadInclude [] s
+answered place word Long s = with_note place note.TooLong [] s
+answered place word _ s = s
 
 -- what a directive of the kind does, but for the file that it includes (6.10.1 to 6.10.6)
 abbrev pub effect : NodeKind → Place → List Token → Answer → State → State
-effect If place rest answer s = answer_noted place answer s
+effect If place rest answer s = answered place [] answer s
 effect Ifdef place rest answer s = name_noted place (first_name rest) s
 effect Ifndef place rest answer s = name_noted place (first_name rest) s
-effect Elif place rest answer s = answer_noted place answer s
-effect Define place rest answer s = defined place (defines rest) s
-effect Undef place rest answer s = undefined place (undefines rest) s
-effect Include place rest answer s = answer_noted place answer s
+effect Elif place rest answer s = answered place [] answer s
+effect Define place rest answer s = answered place [] answer s
+effect Undef place rest answer s = answered place [] answer s
+effect Include place rest answer s = answered place [] answer s
 effect Once place rest answer s = record s { once = with_path s.once place.path }
 effect Error place rest answer s = with_note place note.ErrorReached [] s
 effect _ place rest answer s = s
@@ -196,17 +183,10 @@ abbrev pub word_of : Op → List ℕ
 word_of (op.Define word) = word
 word_of (op.Undef word) = word
 
--- what a word of -D or -U does (own)
-abbrev pub word_effect : Place → List ℕ → Answer → State → State
-word_effect place word (Defines name definition) s = with_definition place name definition s
-word_effect place word (Undefines name) s = record s { macros = without_macro name s.macros }
-word_effect place word Wordless s = with_note place note.BadDefine word s
-word_effect place word _ s = s
-
 -- a state behind what waits, but for the file that it begins (own)
 abbrev pub turned_waiting : Place → Answer → List Waiting → State → State
 turned_waiting place answer [] s = s
-turned_waiting place answer (Given op ∷ ws) s = word_effect place (word_of op) answer (record s { waiting = ws })
+turned_waiting place answer (Given op ∷ ws) s = answered place (word_of op) answer (record s { waiting = ws })
 turned_waiting place answer (Forced text ∷ ws) s =
     if length text == 0 then with_note place note.BadInclude [] (record s { waiting = ws }) else record s { waiting = ws }
 turned_waiting place answer (Main ∷ ws) s = record s { waiting = ws }

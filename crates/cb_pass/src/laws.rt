@@ -7,7 +7,7 @@ ghost use Rattle.cb_pass.specs.Passes.{IsPass};
 
 use cb_cond::one_condition;
 use cb_expand::one_expansion;
-use cb_macro::one_word;
+use cb_tokens::one_cut;
 
 /// The pass of a command over files has one outcome.
 pub fn one_pass()
@@ -15,7 +15,7 @@ pub fn one_pass()
 {
     one_condition();
     one_expansion();
-    one_word();
+    one_cut();
 }
 
 /// The pass of a command has the same outcome over any other files that agree with these on its probes, in absence or in

@@ -1,12 +1,22 @@
 //! The pass of one command over many files: which nodes it reaches, which paths it looks at, and what it has to tell.
 #![tactic(auto)]
 
+mod file_map;
+mod files;
+mod header;
 mod laws;
 mod limits;
+mod meter;
+mod node_set;
 mod note;
+mod note_list;
 mod section;
 
+pub use file_map::FileMap;
+pub use files::Files;
 pub use laws::{one_pass, same_pass};
 pub use limits::{DEPTH_LIMIT, NODE_LIMIT};
+pub use meter::Meter;
+pub use node_set::NodeSet;
 pub use note::{Note, NoteKind};
 pub use section::Section;

@@ -1,4 +1,7 @@
 //! What a pass leaves to be told.
+ghost use Rattle.std.specs.Prelude.{◌≡◌};
+ghost use Rattle.cb_pass.specs.Kinds.{note_number, note_name};
+
 use cb_paths::{Bytes, Path};
 
 /// What a note tells.
@@ -26,8 +29,46 @@ pub enum NoteKind {
     NoMain,
 }
 
+impl NoteKind {
+    /// The number of the kind, from 1.
+    pub fn number(&self) -> u32
+        ensures { result ≡ note_number self.now }
+    {
+        match self {
+            NoteKind::Missing => 1,
+            NoteKind::BadInclude => 2,
+            NoteKind::BadDefine => 3,
+            NoteKind::Redefined => 4,
+            NoteKind::BadCondition => 5,
+            NoteKind::TooLong => 6,
+            NoteKind::TooDeep => 7,
+            NoteKind::Budget => 8,
+            NoteKind::ErrorReached => 9,
+            NoteKind::NoMain => 10,
+        }
+    }
+
+    /// The name of the kind.
+    pub fn name(&self) -> &'static str
+        ensures { result.now ≡ note_name self.now }
+    {
+        match self {
+            NoteKind::Missing => "Missing",
+            NoteKind::BadInclude => "BadInclude",
+            NoteKind::BadDefine => "BadDefine",
+            NoteKind::Redefined => "Redefined",
+            NoteKind::BadCondition => "BadCondition",
+            NoteKind::TooLong => "TooLong",
+            NoteKind::TooDeep => "TooDeep",
+            NoteKind::Budget => "Budget",
+            NoteKind::ErrorReached => "ErrorReached",
+            NoteKind::NoMain => "NoMain",
+        }
+    }
+}
+
 /// A note: where it was left, and what it tells. Notes are in the order of these fields.
-#[derive(Drop)]
+#[derive(PartialEq, Eq, PartialOrd, Ord, Hash, Drop)]
 pub struct Note {
     /// The file; of the start of a command it is the main file.
     pub path: Path,
