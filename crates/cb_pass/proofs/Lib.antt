@@ -5,3 +5,5 @@ pub mod One
 pub mod Words
 pub mod Rows
 pub mod SameNotes
+pub mod PassRows
+pub mod Joined

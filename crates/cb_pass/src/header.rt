@@ -1,5 +1,5 @@
 //! The header that tokens name as they are written.
-ghost use Rattle.std.specs.Prelude.{◌≡◌, ◌∷◌, ◌-◌, length, take, IfOk};
+ghost use Rattle.std.specs.Prelude.{◌≡◌, ◌∷◌, ◌++◌, ◌-◌, length, take, IfOk, OnOk};
 ghost use Rattle.std.specs.Option.{option_copied, option_map};
 ghost use Rattle.cb_pass.specs.Headers.{between_quotes, up_to_greater, space_before, quote_header, angle_header, header_of};
 
@@ -81,15 +81,23 @@ fn angled(alloc: Global, tokens: &[Token]) -> Result<Option<Header>, NoMemory>
     }
 }
 
+/// Puts a space behind a text where white space stands before a token.
+fn push_space(text: &mut Vec<u8>, token: &Token) -> Result<(), NoMemory>
+    ensures { OnOk result (text.new.items ≡ text.old.items ++ space_before token.now) }
+{
+    if token.spaced {
+        text.push(b' ')?;
+    }
+    Ok(())
+}
+
 /// The spellings up to the first `>`, joined.
 fn up_to_greater(alloc: Global, tokens: &[Token]) -> Result<Option<Vec<u8>>, NoMemory>
     ensures { IfOk result (λ text. option_map (λ t. t.items) text ≡ up_to_greater tokens.now) }
 {
     let mut text = Vec::new(alloc);
     'tokens: for token in tokens {
-        if token.spaced {
-            text.push(b' ')?;
-        }
+        push_space(&mut text, token)?;
         if token.text.as_slice() == b">".as_slice() {
             return Ok(Some(text));
         }

@@ -1,6 +1,7 @@
 //! The pass of one command over many files: which nodes it reaches, which paths it looks at, and what it has to tell.
 #![tactic(auto)]
 
+mod expander;
 mod file_map;
 mod files;
 mod header;
@@ -12,6 +13,7 @@ mod note;
 mod note_list;
 mod section;
 
+pub use expander::{ExpandFault, Expander, Mode};
 pub use file_map::FileMap;
 pub use files::Files;
 pub use laws::{one_pass, same_pass};
