@@ -11,13 +11,13 @@ use Rattle.cb_include.specs.declared.header.Header.{Header}
 use Rattle.cb_pass.specs.Notes.{Place}
 use Rattle.cb_pass.specs.Macros.{Expansion}
 use Rattle.cb_pass.specs.Answers.{Answer}
-use Rattle.cb_pass.specs.States.{State, Outcome, outcome}
+use Rattle.cb_pass.specs.States.{State, Outcome}
 use Rattle.cb_pass.specs.Steps.{turned_in}
 use Rattle.cb_include.specs.Candidates.{candidates}
 use Rattle.cb_include.specs.Seen.{has_path, with_path, with_paths, up_to}
-use Rattle.cb_pass.specs.Files.{Files, Request, Stays, Begins, Searches, request, start_of, entering, is_present, found_path, met, stepped, Agree}
+use Rattle.cb_pass.specs.Files.{Files, Request, Stays, Begins, Searches, request, start_of, is_present, found_path, met, stepped, Agree}
 use Rattle.cb_pass.specs.Passes.{Leads, over, goes, start, start_with, IsPass}
-use Rattle.cb_pass.proofs.Grown.{Grows, with_paths_grows, found_probes, stepped_grows, leads_grows}
+use Rattle.cb_pass.proofs.Grown.{Grows, with_paths_grows, found_probes, leads_grows}
 
 module _ (Expands : Expansion) (files other : Files) where
   front : (paths more : List (List ℕ)) → Agree files other (paths ++ more) → Agree files other paths
@@ -53,9 +53,10 @@ module _ (Expands : Expansion) (files other : Files) where
 
   at_probes : (more paths : List (List ℕ)) → Agree files other (with_paths paths more) → Agree files other more
   at_probes [] paths a = tt
-  at_probes (path ∷ more) paths a =
-      (at_probe path paths (before (with_path paths path) (with_paths (with_path paths path) more) (with_paths_grows more (with_path paths path)) a),
-       at_probes more (with_path paths path) a)
+  at_probes (path ∷ more) paths a = (
+    at_probe path paths (before (with_path paths path) (with_paths (with_path paths path) more) (with_paths_grows more (with_path paths path)) a),
+    at_probes more (with_path paths path) a,
+  )
 
   at_front : (test : Bool) (path : List ℕ) (behind : List (List ℕ)) → Agree files other (if test then path ∷ [] else path ∷ behind) → files path ≡ other path
   at_front true path behind a = a.0
@@ -71,7 +72,7 @@ module _ (Expands : Expansion) (files other : Files) where
   same_looked_at (path ∷ paths) a =
       same_up_to (is_present files path) path (up_to (is_present files) paths) (up_to (is_present other) paths) a (same_looked_at paths)
       ∙ ap (λ (bones : Option (List Bone)). (if is_some bones then path ∷ [] else path ∷ up_to (is_present other) paths))
-        (at_front (is_present files path) path (up_to (is_present files) paths) a)
+      (at_front (is_present files path) path (up_to (is_present files) paths) a)
 
   same_first : (test : Bool) (path : List ℕ) (behind : List (List ℕ)) (found more : Option (List ℕ))
       → Agree files other (if test then path ∷ [] else path ∷ behind) → (Agree files other behind → found ≡ more) → cond test (Some path) found ≡ cond test (Some path) more
@@ -83,7 +84,7 @@ module _ (Expands : Expansion) (files other : Files) where
   same_present (path ∷ paths) a =
       same_first (is_present files path) path (up_to (is_present files) paths) (find (is_present files) paths) (find (is_present other) paths) a (same_present paths)
       ∙ ap (λ (bones : Option (List Bone)). cond (is_some bones) (Some path) (find (is_present other) paths))
-        (at_front (is_present files path) path (up_to (is_present files) paths) a)
+      (at_front (is_present files path) path (up_to (is_present files) paths) a)
 
   found_at : (test : Bool) (path : List ℕ) (behind : List (List ℕ)) (found : Option (List ℕ)) (p : List ℕ)
       → Agree files other (if test then path ∷ [] else path ∷ behind) → (Agree files other behind → found ≡ Some p → files p ≡ other p)
@@ -110,7 +111,7 @@ module _ (Expands : Expansion) (files other : Files) where
         let paths : List (List ℕ) = candidates command from header in
         let t : State = record s { probes = with_paths s.probes (up_to (is_present files) paths) } in
         let a1 : Agree files other (with_paths s.probes (up_to (is_present files) paths)) =
-            subst (Agree files other) (found_probes files place depth header (find (is_present files) paths) t) a in
+        subst (Agree files other) (found_probes files place depth header (find (is_present files) paths) t) a in
         let a2 : Agree files other (up_to (is_present files) paths) = at_probes (up_to (is_present files) paths) s.probes a1 in
         same_found place depth header (find (is_present files) paths) t (λ p e. at_found paths p a2 e)
         ∙ (ap (λ (path : Option (List ℕ)). found_path other place depth header path t) (same_present paths a2)
@@ -133,7 +134,7 @@ module _ (Expands : Expansion) (files other : Files) where
   pub same_pass : (command : Command) (end : Outcome) → IsPass Expands files command end → Agree files other end.probes → IsPass Expands other command end
   same_pass command end pass a =
       let a1 : Agree files other (command.main ∷ []) =
-          subst (Agree files other) (start_probes command (files command.main))
-          (before (start files command).probes end.probes (leads_grows Expands files command end (start files command) pass) a) in
+      subst (Agree files other) (start_probes command (files command.main))
+      (before (start files command).probes end.probes (leads_grows Expands files command end (start files command) pass) a) in
       subst (λ (s : State). Leads Expands other command end s) (ap (start_with command) a1.0)
       (same_leads command a1.0 end (start files command) a pass)

@@ -12,8 +12,8 @@ use Rattle.cb_include.specs.declared.command.Command.{Command}
 use Rattle.cb_include.specs.declared.header.Header.{Header}
 use Rattle.cb_pass.specs.Notes.{Place}
 use Rattle.cb_pass.specs.Macros.{Expansion}
-use Rattle.cb_pass.specs.Answers.{Answer, Silent, Defines, Undefines, Wordless, Holds, Faulty, Names, Nameless, Long, IsAnswered}
-use Rattle.cb_pass.specs.States.{Frame, Waiting, Given, Forced, Main, State, Outcome, outcome}
+use Rattle.cb_pass.specs.Answers.{Answer, Silent, Defines, Undefines, Wordless, Holds, Faulty, Names, Nameless, Long}
+use Rattle.cb_pass.specs.States.{Frame, Waiting, Given, Forced, Main, State, Outcome}
 use Rattle.cb_pass.specs.Steps.{first_name, answered, name_noted, effect, counted, behind, turned_frame, word_of, turned_waiting, turned_in, is_active, is_reached, is_spent, place_in, behind_node, sections_behind, holds_at, ended}
 use Rattle.cb_include.specs.Candidates.{candidates}
 use Rattle.cb_include.specs.Seen.{has_path, with_path, with_paths, up_to}

@@ -1,6 +1,6 @@
 -- A pass has one outcome.
-use Rattle.std.proofs.Common.{◌≡◌, ℕ, ◌<◌, ◌≤◌, Bool, true, false, List, [], ◌∷◌, refl, sym, ap, subst, ◌∙◌, inl, inr, arith}
-use Rattle.std.specs.Prelude.{Option, Some, None, Result, ◌⊎◌, option_and_then}
+use Rattle.std.proofs.Common.{◌≡◌, ℕ, ◌<◌, ◌≤◌, Bool, true, false, List, refl, sym, ap, subst, ◌∙◌, inl, inr, arith}
+use Rattle.std.specs.Prelude.{Option, Some, None, Result, option_and_then}
 use Rattle.cb_paths.specs.declared.language.Language.{Language}
 use Rattle.cb_tokens.specs.declared.token.Token.{Token}
 use Rattle.cb_cond.specs.declared.bad_condition.BadCondition.{BadCondition}
@@ -21,11 +21,11 @@ use Rattle.cb_include.specs.declared.command.Command.{Command}
 use Rattle.cb_include.specs.declared.header.Header.{Header}
 use Rattle.cb_pass.specs.Headers.{header_of}
 use Rattle.cb_pass.specs.Macros.{Macros, Expansion, cost_limit, IsReplacement, IsTooDear}
-use Rattle.cb_pass.specs.Answers.{Question, Nothing, Word, Defining, Undefining, Truth, Named, Answer, Defines, Long, IsAnswered, IsDefinition, IsWord, IsReplaced, IsTruth, IsNamed, undefines_or_not, holds_or_not, named_or_not}
-use Rattle.cb_pass.specs.States.{State, Outcome, outcome}
+use Rattle.cb_pass.specs.Answers.{Question, Nothing, Word, Defining, Undefining, Truth, Named, Answer, Defines, IsAnswered, IsDefinition, IsWord, IsReplaced, IsTruth, IsNamed, undefines_or_not, holds_or_not, named_or_not}
+use Rattle.cb_pass.specs.States.{State, Outcome}
 use Rattle.cb_pass.specs.Steps.{question}
 use Rattle.cb_pass.specs.Files.{Files, stepped}
-use Rattle.cb_pass.specs.Passes.{Leads, over, goes, start, IsPass, is_over}
+use Rattle.cb_pass.specs.Passes.{Leads, over, goes, start, IsPass}
 
 -- what replacement makes of tokens, and what it costs, is one
 abbrev pub OneExpansion : Expansion → Type 0

@@ -1,6 +1,6 @@
 -- Small passes, worked by hand.
-use Rattle.std.proofs.Common.{◌≡◌, ℕ, Bool, true, false, List, [], ◌∷◌, refl}
-use Rattle.std.specs.Prelude.{Option, Some, None, codes, if◌then◌else◌}
+use Rattle.std.proofs.Common.{◌≡◌, ℕ, true, false, List, [], ◌∷◌, refl}
+use Rattle.std.specs.Prelude.{Some, None, codes, if◌then◌else◌}
 use Rattle.std.specs.Str.{bytes_eq}
 use Prim.Native.Nat.{zero, suc}
 use Rattle.cb_paths.specs.declared.language.Language.TheVariants.{C}
@@ -11,7 +11,6 @@ use Rattle.cb_tokens.specs.declared.token.Token.{Token}
 use Rattle.cb_tree.specs.declared.node.NodeKind.TheVariants.{Text, Ifdef, Else, Endif, Include, Once}
 use Rattle.cb_tree.specs.Skeleton.{Bone}
 use Rattle.cb_include.specs.declared.command.Command.{Command}
-use Rattle.cb_pass.specs.declared.note.NoteKind.TheVariants as note
 use Rattle.cb_pass.specs.Headers.{header_of}
 use Rattle.cb_pass.specs.Notes.{noted}
 use Rattle.cb_pass.specs.Answers.{Question, Nothing, Word, Defining, Undefining, Truth, Named, Answer, Silent, named_or_not}
@@ -19,7 +18,7 @@ use Rattle.cb_pass.specs.Macros.{Expansion}
 use Rattle.cb_pass.specs.States.{State, Outcome, outcome}
 use Rattle.cb_pass.specs.Steps.{question}
 use Rattle.cb_pass.specs.Files.{Files, stepped}
-use Rattle.cb_pass.specs.Passes.{Leads, over, goes, start, IsPass}
+use Rattle.cb_pass.specs.Passes.{over, goes, start, IsPass}
 
 -- nothing is replaced
 abbrev never : Expansion
@@ -36,7 +35,14 @@ plain (Named tokens) = named_or_not (header_of tokens)
 
 told : Command
 told = record {
-  main = codes "m.c"; language = C; ops = []; work = codes "/"; quote = []; angle = []; forced = []; root = codes "/";
+  main = codes "m.c";
+  language = C;
+  ops = [];
+  work = codes "/";
+  quote = [];
+  angle = [];
+  forced = [];
+  root = codes "/";
 }
 
 identifier : List ℕ → Token
@@ -67,21 +73,24 @@ run files (suc n) s = run files n (next files s)
 -- four nodes are reached, and the header is read once
 twice_read : (end : Outcome) × IsPass never twice told end × (end.count ≡ 4) × (end.probes ≡ codes "m.c" ∷ codes "h.h" ∷ []) × (end.notes ≡ [])
 unfolding plain told identifier hash text includes twice next run file_at folder_holding is_up is_kept noted
-twice_read =
-    (outcome (run twice 7 (start twice told)),
-     goes refl Silent refl (goes refl (plain (Named (record { kind = Str; spaced = true; text = codes "\"h.h\"" } ∷ []))) refl
-     (goes refl Silent refl (goes refl Silent refl (goes refl Silent refl
-     (goes refl (plain (Named (record { kind = Str; spaced = true; text = codes "\"h.h\"" } ∷ []))) refl
-     (goes refl Silent refl (over refl refl))))))),
-     refl, refl, refl)
+twice_read = (
+  outcome (run twice 7 (start twice told)),
+  goes refl Silent refl (goes refl (plain (Named (record { kind = Str; spaced = true; text = codes "\"h.h\"" } ∷ []))) refl
+      (goes refl Silent refl (goes refl Silent refl (goes refl Silent refl
+      (goes refl (plain (Named (record { kind = Str; spaced = true; text = codes "\"h.h\"" } ∷ []))) refl
+      (goes refl Silent refl (over refl refl))))))),
+  refl,
+  refl,
+  refl,
+)
 
 -- #ifdef GPU / a(); / #else / b(); / #endif / c();
 chosen : Files
 chosen path =
     if bytes_eq path (codes "m.c")
     then Some (record { kind = Ifdef; tokens = hash ∷ identifier (codes "ifdef") ∷ identifier (codes "GPU") ∷ [] } ∷ text
-      ∷ record { kind = Else; tokens = hash ∷ identifier (codes "else") ∷ [] } ∷ text
-      ∷ record { kind = Endif; tokens = hash ∷ identifier (codes "endif") ∷ [] } ∷ text ∷ [])
+    ∷ record { kind = Else; tokens = hash ∷ identifier (codes "else") ∷ [] } ∷ text
+    ∷ record { kind = Endif; tokens = hash ∷ identifier (codes "endif") ∷ [] } ∷ text ∷ [])
     else None
 
 before : ℕ → State
@@ -90,9 +99,12 @@ before n = run chosen n (start chosen told)
 -- all but the first group are reached
 chosen_read : (end : Outcome) × IsPass never chosen told end × (end.count ≡ 5) × (end.reached (codes "m.c") 2 ≡ false) × (end.reached (codes "m.c") 4 ≡ true)
 unfolding plain told identifier hash text chosen next run noted before
-chosen_read =
-    (outcome (before 8),
-     goes {s = before 0} refl Silent refl (goes {s = before 1} refl Silent refl (goes {s = before 2} refl Silent refl
-     (goes {s = before 3} refl Silent refl (goes {s = before 4} refl Silent refl (goes {s = before 5} refl Silent refl
-     (goes {s = before 6} refl Silent refl (goes {s = before 7} refl Silent refl (over {s = before 8} refl refl)))))))),
-     refl, refl, refl)
+chosen_read = (
+  outcome (before 8),
+  goes {s = before 0} refl Silent refl (goes {s = before 1} refl Silent refl (goes {s = before 2} refl Silent refl
+      (goes {s = before 3} refl Silent refl (goes {s = before 4} refl Silent refl (goes {s = before 5} refl Silent refl
+      (goes {s = before 6} refl Silent refl (goes {s = before 7} refl Silent refl (over {s = before 8} refl refl)))))))),
+  refl,
+  refl,
+  refl,
+)

@@ -1,12 +1,12 @@
 -- A step of a pass: to the next node of the innermost file, out of it at its end, or to what waits (6.10).
-use Rattle.std.specs.Prelude.{ℕ, ◌+◌, ◌==◌, ◌&&◌, ◌||◌, nat_le, nat_lt, Bool, true, false, not, if◌then◌else◌, List, [], ◌∷◌, length, Option, Some, None, codes}
+use Rattle.std.specs.Prelude.{ℕ, ◌==◌, ◌&&◌, ◌||◌, nat_le, Bool, false, not, if◌then◌else◌, List, [], ◌∷◌, length, Option, Some, None, codes}
 use Prim.Native.Nat.{suc}
 use Rattle.std.specs.Str.{bytes_eq}
 use Rattle.std.specs.Option.{is_some}
 use Rattle.cb_tokens.specs.declared.token.Token.{Token}
 use Rattle.cb_tokens.specs.Kinds.{is_identifier_kind}
 use Rattle.cb_tree.specs.declared.node.NodeKind.{NodeKind}
-use Rattle.cb_tree.specs.declared.node.NodeKind.TheVariants.{Text, If, Ifdef, Ifndef, Elif, Else, Endif, Define, Undef, Include, Once, Error, Other}
+use Rattle.cb_tree.specs.declared.node.NodeKind.TheVariants.{If, Ifdef, Ifndef, Elif, Else, Endif, Define, Undef, Include, Once, Error}
 use Rattle.cb_tree.specs.Kinds.{rest_of}
 use Rattle.cb_tree.specs.Skeleton.{Bone}
 use Rattle.cb_cond.specs.Faults.{fault_name}
@@ -21,7 +21,7 @@ use Rattle.cb_pass.specs.declared.note.NoteKind.TheVariants as note
 use Rattle.cb_pass.specs.Sections.{is_live, is_before_live, may_be_taken, entered, continued, turned, closed}
 use Rattle.cb_pass.specs.Notes.{Place, note_at, noted}
 use Rattle.cb_pass.specs.Macros.{Macros}
-use Rattle.cb_pass.specs.Answers.{Question, Nothing, Word, Defining, Undefining, Truth, Named, Answer, Silent, Defines, Undefines, Wordless, Holds, Faulty, Names, Nameless, Long}
+use Rattle.cb_pass.specs.Answers.{Question, Nothing, Word, Defining, Undefining, Truth, Named, Answer, Defines, Undefines, Wordless, Holds, Faulty, Nameless, Long}
 use Rattle.cb_pass.specs.States.{Frame, Waiting, Given, Forced, Main, State}
 
 -- a node of the kind is reached here: #elif, #else and #endif where their section stands in live text (own), any other in
@@ -166,7 +166,7 @@ behind_node f rest sections = record f { node = suc f.node; rest = rest; section
 abbrev pub behind : Answer → Frame → Bone → List Bone → List Frame → State → State
 behind answer f b bs fs s =
     let entered_state = counted (is_reached b.kind f.sections) (place_in f)
-          (record s { frames = behind_node f bs (sections_behind b.kind (holds_at b.kind (rest_of b.tokens) s.macros answer) f.sections) ∷ fs }) in
+    (record s { frames = behind_node f bs (sections_behind b.kind (holds_at b.kind (rest_of b.tokens) s.macros answer) f.sections) ∷ fs }) in
     if is_active b.kind f.sections then effect b.kind (place_in f) (rest_of b.tokens) answer entered_state else entered_state
 
 -- the pass ends where one node too many would be reached (own)

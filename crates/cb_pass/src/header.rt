@@ -19,11 +19,7 @@ pub(crate) fn header_of(alloc: Global, tokens: &[Token]) -> Result<Option<Header
 }
 
 /// The header that tokens begin with: the first of them, and the others.
-fn header_from(
-    alloc: Global,
-    first: &Token,
-    rest: &[Token],
-) -> Result<Option<Header>, NoMemory>
+fn header_from(alloc: Global, first: &Token, rest: &[Token]) -> Result<Option<Header>, NoMemory>
     ensures { IfOk result (λ header. header ≡ header_of (first.now ∷ rest.now)) }
 {
     if let TokenKind::Str = first.kind {

@@ -1,4 +1,4 @@
-use Rattle.std.proofs.Common.{◌≡◌, ◌∙◌}
+use Rattle.std.proofs.Common.{◌∙◌}
 use Rattle.cb_pass.proofs.Words.{behind_end}
 use Rattle.cb_pass.proofs.node_set.grow.Goals as goal
 

@@ -1,4 +1,3 @@
-use Rattle.std.proofs.Common.{◌≡◌, List, ℕ, get_or}
 use Rattle.cb_pass.proofs.Words.{set_word}
 use Rattle.cb_pass.proofs.node_set.set_bit.Goals as goal
 
