@@ -14,7 +14,7 @@ use Rattle.cb_pass.specs.Notes.{Place}
 use Rattle.cb_pass.specs.Macros.{Expansion}
 use Rattle.cb_pass.specs.Answers.{Answer, Silent, Defines, Undefines, Wordless, Holds, Faulty, Names, Nameless, Long}
 use Rattle.cb_pass.specs.States.{Frame, Waiting, Given, Forced, Main, State, Outcome}
-use Rattle.cb_pass.specs.Steps.{first_name, answered, name_noted, effect, counted, behind, turned_frame, word_of, turned_waiting, turned_in, is_active, is_reached, is_spent, place_in, behind_node, sections_behind, holds_at, ended}
+use Rattle.cb_pass.specs.Steps.{first_name, answered, name_noted, effect, counted, behind, turned_frame, word_of, turned_waiting, turned_in, is_active, is_reached, is_spent, place_in, moved, ended}
 use Rattle.cb_include.specs.Candidates.{candidates}
 use Rattle.cb_include.specs.Seen.{has_path, with_path, with_paths, up_to}
 use Rattle.cb_pass.specs.Files.{Files, Request, Stays, Begins, Searches, request, start_of, entering, is_present, found_path, met, stepped}
@@ -87,7 +87,7 @@ counted_probes false place s = refl
 
 behind_probes : (answer : Answer) (f : Frame) (b : Bone) (bs : List Bone) (fs : List Frame) (s : State) → (behind answer f b bs fs s).probes ≡ s.probes
 behind_probes answer f b bs fs s =
-    let t : State = record s { frames = behind_node f bs (sections_behind b.kind (holds_at b.kind (rest_of b.tokens) s.macros answer) f.sections) ∷ fs } in
+    let t : State = record s { frames = moved answer f b bs s.macros ∷ fs } in
     let u : State = counted (is_reached b.kind f.sections) (place_in f) t in
     let e : u.probes ≡ s.probes = counted_probes (is_reached b.kind f.sections) (place_in f) t in
     either_probes (is_active b.kind f.sections) (effect b.kind (place_in f) (rest_of b.tokens) answer u) u s.probes

@@ -16,8 +16,8 @@ use Rattle.cb_pass.specs.declared.expander.Mode.TheVariants as mode
 use Rattle.cb_pass.specs.Headers.{header_of}
 use Rattle.cb_pass.specs.Macros.{Macros, Expansion, IsReplacement, IsTooDear}
 
--- what is asked: nothing; what a word of -D or -U says, what tokens behind #define or #undef say; whether tokens hold as a
--- condition; which header they name (own)
+-- what is asked: nothing; what a word of -D or -U says, what tokens behind #define or #undef say; whether tokens hold
+-- as a condition; which header they name (own)
 pub data Question : Type 0 where
   Nothing : Question
   Word : Op → Question
@@ -26,8 +26,8 @@ pub data Question : Type 0 where
   Truth : List Token → Question
   Named : List Token → Question
 
--- the answers: none; a definition, and whether a different one stood; a name to undefine; neither; that a condition holds or
--- not, or its fault; a header or none; that replacement would cost too much (own)
+-- the answers: none; a definition, and whether a different one stood; a name to undefine; neither; that a condition
+-- holds or not, or its fault; a header or none; that replacement would cost too much (own)
 pub data Answer : Type 0 where
   Silent : Answer
   Defines : List ℕ → Definition → Bool → Answer
@@ -42,7 +42,8 @@ pub data Answer : Type 0 where
 -- the answer where this is defined, or nothing (6.10.3 paragraph 2)
 abbrev pub IsDefinition : Macros → Option (List ℕ × Definition) → Answer → Type 0
 IsDefinition macros None answer = answer ≡ Wordless
-IsDefinition macros (Some d) answer = (different : Bool) × IsChange (found macros d.0) d.1 different × (answer ≡ Defines d.0 d.1 different)
+IsDefinition macros (Some d) answer =
+    (different : Bool) × IsChange (found macros d.0) d.1 different × (answer ≡ Defines d.0 d.1 different)
 
 -- the answer where this name is undefined, or none (6.10.3.5 paragraph 2)
 abbrev pub undefines_or_not : Option (List ℕ) → Answer
@@ -51,13 +52,16 @@ undefines_or_not (Some name) = Undefines name
 
 -- what a word says (GCC's manual, "Options Controlling the Preprocessor")
 abbrev pub IsWord : Macros → Op → Answer → Type 0
-IsWord macros (Define word) answer = (d : Option (List ℕ × Definition)) × WordDefines word d × IsDefinition macros d answer
-IsWord macros (Undef word) answer = (name : Option (List ℕ)) × WordUndefines word name × (answer ≡ undefines_or_not name)
+IsWord macros (Define word) answer =
+    (d : Option (List ℕ × Definition)) × WordDefines word d × IsDefinition macros d answer
+IsWord macros (Undef word) answer =
+    (name : Option (List ℕ)) × WordUndefines word name × (answer ≡ undefines_or_not name)
 
 -- what replacement makes of tokens says this, or it would cost too much (6.10.3; the limit is own)
 abbrev pub IsReplaced : Expansion → Macros → Mode → List Token → (List Token → Answer → Type 0) → Answer → Type 0
 IsReplaced Expands macros mode tokens Says answer =
-    ((out : List Token) × IsReplacement Expands macros mode tokens out × Says out answer) ⊎ (IsTooDear Expands macros mode tokens × (answer ≡ Long))
+    ((out : List Token) × IsReplacement Expands macros mode tokens out × Says out answer)
+    ⊎ (IsTooDear Expands macros mode tokens × (answer ≡ Long))
 
 -- the answer by the value of a condition (6.10.1 paragraph 4)
 abbrev pub holds_or_not : Result Bool BadCondition → Answer
@@ -66,7 +70,8 @@ holds_or_not (Err bad) = Faulty bad
 
 -- whether tokens hold as a condition (6.10.1, paragraphs 3 and 4)
 abbrev pub IsTruth : Language → List Token → Answer → Type 0
-IsTruth language tokens answer = (value : Result Bool BadCondition) × IsAnswer (symbols language tokens) value × (answer ≡ holds_or_not value)
+IsTruth language tokens answer =
+    (value : Result Bool BadCondition) × IsAnswer (symbols language tokens) value × (answer ≡ holds_or_not value)
 
 -- an empty header names none (6.4.7)
 abbrev pub named_or_not : Option Header → Answer
@@ -76,7 +81,8 @@ named_or_not (Some h) = if length h.text == 0 then Nameless else Names h
 -- which header tokens name: as they are written, else as they are replaced (6.10.2, paragraphs 2 to 4)
 abbrev pub IsNamed : Expansion → Macros → List Token → Option Header → Answer → Type 0
 IsNamed Expands macros tokens (Some h) answer = answer ≡ named_or_not (Some h)
-IsNamed Expands macros tokens None answer = IsReplaced Expands macros mode.Plain tokens (λ out said. said ≡ named_or_not (header_of out)) answer
+IsNamed Expands macros tokens None answer =
+    IsReplaced Expands macros mode.Plain tokens (λ out said. said ≡ named_or_not (header_of out)) answer
 
 -- the answer to a question (own)
 abbrev pub IsAnswered : Expansion → Language → Macros → Question → Answer → Type 0
@@ -84,5 +90,6 @@ IsAnswered Expands language macros Nothing answer = answer ≡ Silent
 IsAnswered Expands language macros (Word op) answer = IsWord macros op answer
 IsAnswered Expands language macros (Defining tokens) answer = IsDefinition macros (defines tokens) answer
 IsAnswered Expands language macros (Undefining tokens) answer = answer ≡ undefines_or_not (undefines tokens)
-IsAnswered Expands language macros (Truth tokens) answer = IsReplaced Expands macros mode.Condition tokens (IsTruth language) answer
+IsAnswered Expands language macros (Truth tokens) answer =
+    IsReplaced Expands macros mode.Condition tokens (IsTruth language) answer
 IsAnswered Expands language macros (Named tokens) answer = IsNamed Expands macros tokens (header_of tokens) answer

@@ -21,8 +21,8 @@ use Rattle.cb_pass.specs.Steps.{is_active, is_spent, place_in, with_note, turned
 abbrev pub Files : Type 0
 Files = List ℕ → Option (List Bone)
 
--- what is asked of the files: nothing, that the main file begins, or that a header is looked for from a file or from the start,
--- noted at a place and entered at a depth (own)
+-- what is asked of the files: nothing, that the main file begins, or that a header is looked for from a file or from
+-- the start, noted at a place and entered at a depth (own)
 pub data Request : Type 0 where
   Stays : Request
   Begins : Request
@@ -42,14 +42,15 @@ node_request _ f answer = Stays
 abbrev pub frame_request : Frame → List Bone → ℕ → Answer → Request
 frame_request f [] count answer = Stays
 frame_request f (b ∷ bs) count answer =
-    if not (is_spent b.kind f.sections count) && is_active b.kind f.sections then node_request b.kind f answer else Stays
+    if not (is_spent b.kind f.sections count) && is_active b.kind f.sections
+    then node_request b.kind f answer else Stays
 
 -- the place of the start of a command (own)
 abbrev pub start_of : Command → Place
 start_of command = record { path = command.main; node = 0 }
 
--- the request of what waits: a forced file is a quote header of the start, of which an empty text names none (GCC's manual,
--- "Options Controlling the Preprocessor", -include)
+-- the request of what waits: a forced file is a quote header of the start, of which an empty text names none (GCC's
+-- manual, "Options Controlling the Preprocessor", -include)
 abbrev pub waiting_request : Command → List Waiting → Request
 waiting_request command [] = Stays
 waiting_request command (Given op ∷ ws) = Stays
@@ -78,8 +79,8 @@ entering path depth (Some bones) s = record s { frames = first_frame path depth 
 abbrev pub is_present : Files → List ℕ → Bool
 is_present files path = is_some (files path)
 
--- what is done with the path that a search found: none is noted; one that is not to be entered again is passed over; the depth
--- is looked at then (6.10.2; the order is own)
+-- what is done with the path that a search found: none is noted; one that is not to be entered again is passed over;
+-- the depth is looked at then (6.10.2; the order is own)
 abbrev pub found_path : Files → Place → ℕ → Header → Option (List ℕ) → State → State
 found_path files place depth header None s = with_note place note.Missing (spelled_header header) s
 found_path files place depth header (Some path) s =
@@ -92,7 +93,8 @@ met files command Stays s = s
 met files command Begins s = entering command.main 0 (files command.main) s
 met files command (Searches from place depth header) s =
     let paths = candidates command from header in
-    found_path files place depth header (find (is_present files) paths) (record s { probes = with_paths s.probes (up_to (is_present files) paths) })
+    found_path files place depth header (find (is_present files) paths)
+      (record s { probes = with_paths s.probes (up_to (is_present files) paths) })
 
 -- a state one step on, with the answer to its question (own)
 abbrev pub stepped : Files → Command → Answer → State → State

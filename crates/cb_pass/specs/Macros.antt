@@ -22,4 +22,5 @@ IsReplacement Expands macros mode tokens out = (cost : ℕ) × Expands macros mo
 
 -- replacement would cost more than it may (own)
 abbrev pub IsTooDear : Expansion → Macros → Mode → List Token → Type 0
-IsTooDear Expands macros mode tokens = (out : List Token) (cost : ℕ) → Expands macros mode tokens out cost → cost_limit < cost
+IsTooDear Expands macros mode tokens =
+    (out : List Token) (cost : ℕ) → Expands macros mode tokens out cost → cost_limit < cost

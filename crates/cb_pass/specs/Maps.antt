@@ -14,5 +14,6 @@ some_bones None = refl
 some_bones (Some nodes) = refl
 
 -- a file has a skeleton
-pub some_skeleton : (files : List (List ℕ × List Node)) (path : List ℕ) → is_some (tree_at files path) ≡ is_some (option_map skeleton (tree_at files path))
+pub some_skeleton : (files : List (List ℕ × List Node)) (path : List ℕ)
+    → is_some (tree_at files path) ≡ is_some (option_map skeleton (tree_at files path))
 some_skeleton files path = some_bones (tree_at files path)

@@ -9,7 +9,8 @@ use Rattle.cb_pass.specs.Kinds.{note_number}
 -- two notes of one place that tell the same (own)
 abbrev pub same_note : Note → Note → Bool
 same_note a b =
-    bytes_eq a.path b.path && ((a.node == b.node) && ((note_number a.kind == note_number b.kind) && bytes_eq a.detail b.detail))
+    bytes_eq a.path b.path
+    && ((a.node == b.node) && ((note_number a.kind == note_number b.kind) && bytes_eq a.detail b.detail))
 
 -- a node of a file; 0 stands for the start of a command (own)
 pub record Place : Type 0 where

@@ -25,11 +25,12 @@ number_macro text = record {
 
 -- the macros that are defined at the start: C of 2011 (6.10.8.1), C++ of 2017 (ISO/IEC 14882:2017, 19.8)
 abbrev pub first_macros : Language → Macros
-first_macros C = (codes "__STDC__", number_macro (codes "1")) ∷ (codes "__STDC_VERSION__", number_macro (codes "201112L")) ∷ []
+first_macros C =
+    (codes "__STDC__", number_macro (codes "1")) ∷ (codes "__STDC_VERSION__", number_macro (codes "201112L")) ∷ []
 first_macros Cxx = (codes "__cplusplus", number_macro (codes "201703L")) ∷ []
 
--- what waits at the start: the words of -D and -U, the forced files, and the main file (GCC's manual, "Options Controlling the
--- Preprocessor")
+-- what waits at the start: the words of -D and -U, the forced files, and the main file (GCC's manual, "Options
+-- Controlling the Preprocessor")
 abbrev pub first_waiting : Command → List Waiting
 first_waiting command = map Given command.ops ++ map Forced command.forced ++ Main ∷ []
 
@@ -71,7 +72,8 @@ is_over s = is_over_in s.frames s.waiting
 -- the steps from a state on lead to this outcome (own)
 pub data Leads (Expands : Expansion) (files : Files) (command : Command) (end : Outcome) : State → Type 0 where
   over : {s : State} → is_over s ≡ true → outcome s ≡ end → Leads Expands files command end s
-  goes : {s : State} → is_over s ≡ false → (answer : Answer) → IsAnswered Expands command.language s.macros (question s) answer
+  goes : {s : State} → is_over s ≡ false → (answer : Answer)
+      → IsAnswered Expands command.language s.macros (question s) answer
       → Leads Expands files command end (stepped files command answer s) → Leads Expands files command end s
 
 -- the pass of a command over files has this outcome (own)

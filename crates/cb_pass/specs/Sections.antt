@@ -12,8 +12,8 @@ abbrev pub is_before_live : List Section → Bool
 is_before_live [] = false
 is_before_live (s ∷ ss) = s.before
 
--- the next group of the innermost section may be taken: the section stands in live text, and none of its groups was taken
--- (6.10.1 paragraph 6)
+-- the next group of the innermost section may be taken: the section stands in live text, and none of its groups was
+-- taken (6.10.1 paragraph 6)
 abbrev pub may_be_taken : List Section → Bool
 may_be_taken [] = false
 may_be_taken (s ∷ ss) = s.before && not s.taken
@@ -23,7 +23,8 @@ abbrev pub entered : Bool → List Section → List Section
 entered condition ss =
     record { before = is_live ss; taken = is_live ss && condition; now = is_live ss && condition } ∷ ss
 
--- a section goes on with a group that has a condition; it holds only where no group was taken before (6.10.1 paragraph 6)
+-- a section goes on with a group that has a condition; it holds only where no group was taken before (6.10.1
+-- paragraph 6)
 abbrev pub section_continued : Bool → Section → Section
 section_continued condition s =
     record { before = s.before; taken = s.taken || (s.before && condition); now = s.before && not s.taken && condition }

@@ -24,8 +24,8 @@ use Rattle.cb_pass.specs.Macros.{Macros}
 use Rattle.cb_pass.specs.Answers.{Question, Nothing, Word, Defining, Undefining, Truth, Named, Answer, Defines, Undefines, Wordless, Holds, Faulty, Nameless, Long}
 use Rattle.cb_pass.specs.States.{Frame, Waiting, Given, Forced, Main, State}
 
--- a node of the kind is reached here: #elif, #else and #endif where their section stands in live text (own), any other in
--- live text (6.10.1 paragraph 6)
+-- a node of the kind is reached here: #elif, #else and #endif where their section stands in live text (own), any other
+-- in live text (6.10.1 paragraph 6)
 abbrev pub is_reached : NodeKind → List Section → Bool
 is_reached Elif sections = is_before_live sections
 is_reached Else sections = is_before_live sections
@@ -55,7 +55,8 @@ is_spent kind sections count = is_reached kind sections && nat_le NODE_LIMIT cou
 abbrev pub frame_question : List Bone → List Section → ℕ → Question
 frame_question [] sections count = Nothing
 frame_question (b ∷ bs) sections count =
-    if not (is_spent b.kind sections count) && is_active b.kind sections then question_of b.kind (rest_of b.tokens) else Nothing
+    if not (is_spent b.kind sections count) && is_active b.kind sections
+    then question_of b.kind (rest_of b.tokens) else Nothing
 
 -- the question of what waits (own)
 abbrev pub waiting_question : List Waiting → Question
@@ -118,8 +119,8 @@ abbrev pub name_noted : Place → Option (List ℕ) → State → State
 name_noted place None s = with_note place note.BadCondition (codes "Malformed") s
 name_noted place (Some name) s = s
 
--- what an answer does, where a note on a word tells this detail; a header that is named is looked for later (6.10.3 paragraph 9,
--- 6.10.3.5 paragraph 2; the notes are own)
+-- what an answer does, where a note on a word tells this detail; a header that is named is looked for later (6.10.3
+-- paragraph 9, 6.10.3.5 paragraph 2; the notes are own)
 abbrev pub answered : Place → List ℕ → Answer → State → State
 answered place word (Defines name definition different) s = record s {
   macros = with_definition name definition s.macros;
@@ -162,12 +163,18 @@ place_in f = record { path = f.path; node = f.node }
 abbrev pub behind_node : Frame → List Bone → List Section → Frame
 behind_node f rest sections = record f { node = suc f.node; rest = rest; sections = sections }
 
+-- the file behind its next node, with its open sections there (6.10.1 paragraph 6)
+abbrev pub moved : Answer → Frame → Bone → List Bone → Macros → Frame
+moved answer f b bs macros =
+    behind_node f bs (sections_behind b.kind (holds_at b.kind (rest_of b.tokens) macros answer) f.sections)
+
 -- a state behind the next node of a file, but for the file that it includes (own)
 abbrev pub behind : Answer → Frame → Bone → List Bone → List Frame → State → State
 behind answer f b bs fs s =
-    let entered_state = counted (is_reached b.kind f.sections) (place_in f)
-    (record s { frames = behind_node f bs (sections_behind b.kind (holds_at b.kind (rest_of b.tokens) s.macros answer) f.sections) ∷ fs }) in
-    if is_active b.kind f.sections then effect b.kind (place_in f) (rest_of b.tokens) answer entered_state else entered_state
+    let reached_state = counted (is_reached b.kind f.sections) (place_in f)
+          (record s { frames = moved answer f b bs s.macros ∷ fs }) in
+    if is_active b.kind f.sections
+    then effect b.kind (place_in f) (rest_of b.tokens) answer reached_state else reached_state
 
 -- the pass ends where one node too many would be reached (own)
 abbrev pub ended : Place → State → State
@@ -176,7 +183,8 @@ ended place s = with_note place note.Budget [] (record s { frames = []; waiting 
 -- a state behind the next node of a file, or out of the file (own)
 abbrev pub turned_frame : Answer → Frame → List Bone → List Frame → State → State
 turned_frame answer f [] fs s = record s { frames = fs }
-turned_frame answer f (b ∷ bs) fs s = if is_spent b.kind f.sections s.count then ended (place_in f) s else behind answer f b bs fs s
+turned_frame answer f (b ∷ bs) fs s =
+    if is_spent b.kind f.sections s.count then ended (place_in f) s else behind answer f b bs fs s
 
 -- the word of -D or -U
 abbrev pub word_of : Op → List ℕ
@@ -188,7 +196,8 @@ abbrev pub turned_waiting : Place → Answer → List Waiting → State → Stat
 turned_waiting place answer [] s = s
 turned_waiting place answer (Given op ∷ ws) s = answered place (word_of op) answer (record s { waiting = ws })
 turned_waiting place answer (Forced text ∷ ws) s =
-    if length text == 0 then with_note place note.BadInclude [] (record s { waiting = ws }) else record s { waiting = ws }
+    if length text == 0 then with_note place note.BadInclude [] (record s { waiting = ws })
+    else record s { waiting = ws }
 turned_waiting place answer (Main ∷ ws) s = record s { waiting = ws }
 
 -- a state one step on, but for the file that is entered; the place is that of the start (own)

@@ -44,6 +44,7 @@ pub trait Expander {
         ensures long { result ≡ Err ExpandFault.TooLong → IsTooDear expands macros.now mode tokens.now };
 
     /// Tokens are replaced by one list of others, at one cost.
-    ghost one_expansion: { (macros : List (List ℕ × Definition)) (mode : Way) (tokens out other : List Piece) (cost price : ℕ)
-        → expands macros mode tokens out cost → expands macros mode tokens other price → (out ≡ other) × (cost ≡ price) };
+    ghost one_expansion: { (macros : List (List ℕ × Definition)) (mode : Way) (tokens out other : List Piece)
+        (cost price : ℕ) → expands macros mode tokens out cost → expands macros mode tokens other price
+        → (out ≡ other) × (cost ≡ price) };
 }

@@ -11,14 +11,15 @@ use cb_tokens::one_cut;
 
 /// The pass of a command over files has one outcome.
 pub fn one_pass<E: Expander>()
-    ensures { (files : Files) (command : Told) (a b : Outcome) → IsPass E.expands files command a → IsPass E.expands files command b → a ≡ b }
+    ensures { (files : Files) (command : Told) (a b : Outcome)
+        → IsPass E.expands files command a → IsPass E.expands files command b → a ≡ b }
 {
     one_condition();
     one_cut();
 }
 
-/// The pass of a command has the same outcome over any other files that agree with these on its probes, in absence or in
-/// skeleton: what stands at other paths, and on which lines, does not matter.
+/// The pass of a command has the same outcome over any other files that agree with these on its probes, in absence or
+/// in skeleton: what stands at other paths, and on which lines, does not matter.
 pub fn same_pass<E: Expander>()
     ensures { (files other : Files) (command : Told) (end : Outcome) → IsPass E.expands files command end
         → Agree files other end.probes → IsPass E.expands other command end }

@@ -4,8 +4,8 @@ ghost use Rattle.cb_pass.specs.Meters.{meter_limit};
 
 use std::marker::Model;
 
-/// A count of the nodes that passes have reached, which contracts see as a number. It stands at its last value, 2^64 - 1, once that
-/// is reached.
+/// A count of the nodes that passes have reached, which contracts see as a number. It stands at its last value,
+/// 2^64 - 1, once that is reached.
 #[derive(Drop)]
 pub struct Meter {
     value: u64,

@@ -43,7 +43,8 @@ impl Notes {
         kind: NoteKind,
         detail: &[u8],
     ) -> Result<(), NoMemory>
-        ensures { OnOk result (self.new ≡ noted (record { path = path.now; node = node; kind = kind; detail = detail.now }) self.old) }
+        ensures { OnOk result (self.new
+            ≡ noted (record { path = path.now; node = node; kind = kind; detail = detail.now }) self.old) }
     {
         let path = path.copy(alloc)?;
         let detail = Bytes::from_slice(alloc, detail)?;

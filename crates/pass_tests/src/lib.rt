@@ -1,0 +1,7 @@
+//! Tests of `cb_pass` over its public calls.
+#![tactic(auto)]
+
+#[cfg(test)]
+mod files;
+#[cfg(test)]
+mod kinds;
