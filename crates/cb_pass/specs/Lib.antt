@@ -11,3 +11,4 @@ pub mod Passes
 pub mod Reached
 pub mod Meters
 pub mod Maps
+pub mod inner

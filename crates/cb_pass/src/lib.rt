@@ -1,6 +1,7 @@
 //! The pass of one command over many files: which nodes it reaches, which paths it looks at, and what it has to tell.
 #![tactic(auto)]
 
+mod answer;
 mod expander;
 mod file_map;
 mod files;
