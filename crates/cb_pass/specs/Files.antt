@@ -94,7 +94,7 @@ met files command Begins s = entering command.main 0 (files command.main) s
 met files command (Searches from place depth header) s =
     let paths = candidates command from header in
     found_path files place depth header (find (is_present files) paths)
-      (record s { probes = with_paths s.probes (up_to (is_present files) paths) })
+    (record s { probes = with_paths s.probes (up_to (is_present files) paths) })
 
 -- a state one step on, with the answer to its question (own)
 abbrev pub stepped : Files → Command → Answer → State → State

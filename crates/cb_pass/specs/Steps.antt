@@ -172,7 +172,7 @@ moved answer f b bs macros =
 abbrev pub behind : Answer → Frame → Bone → List Bone → List Frame → State → State
 behind answer f b bs fs s =
     let reached_state = counted (is_reached b.kind f.sections) (place_in f)
-          (record s { frames = moved answer f b bs s.macros ∷ fs }) in
+    (record s { frames = moved answer f b bs s.macros ∷ fs }) in
     if is_active b.kind f.sections
     then effect b.kind (place_in f) (rest_of b.tokens) answer reached_state else reached_state
 

@@ -8,6 +8,7 @@ mod files;
 mod header;
 mod laws;
 mod limits;
+mod memory;
 mod meter;
 mod node_set;
 mod note;
