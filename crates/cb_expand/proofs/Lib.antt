@@ -1,0 +1,9 @@
+pub mod Unique
+pub mod Stepping
+pub mod Heights
+pub mod Keeping
+pub mod Alike
+pub mod Putting
+pub mod Resuming
+pub mod ByEnds
+pub mod Readings

@@ -1,0 +1,6 @@
+-- What private clauses alone cite.
+pub mod Machine
+pub mod Rows
+pub mod Works
+pub mod Gathers
+pub mod Readings
