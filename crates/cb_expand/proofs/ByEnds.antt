@@ -2,7 +2,7 @@
 use Rattle.std.proofs.Common.{◌≡◌, ℕ, zero, suc, ◌+◌, ◌-◌, ◌≤◌, ◌<◌, Bool, true, false, List, [], ◌∷◌, ◌++◌, length, take, drop, get_or, refl, ap, sym, ◌∙◌, subst, arith, Option, Some, None, ◌⊎◌, inl, inr}
 use Rattle.std.specs.Prelude.{if◌then◌else◌}
 use Rattle.std.specs.Option.{option_map}
-use Rattle.std.proofs.lemmas.List.{append_assoc, take_at, length-map, get_or_default}
+use Rattle.std.proofs.lemmas.List.{append_assoc, take_at, length-map, length-append, get_or_default}
 use Rattle.cb_paste.specs.declared.work_token.WorkToken.{WorkToken}
 use Rattle.cb_paste.specs.Shades.{Shaded, seen}
 use Rattle.cb_expand.specs.declared.sign.Sign.{Sign}
@@ -112,7 +112,7 @@ height_is sets ts commas height =
     length_from_end sign_of_token commas 0 (between 0 height (seen_all sets ts))
     ∙ ap (λ xs. length (from_end (λ (x : Sign). x) commas 0 xs)) (between_map sign_of_token 0 height (seen_all sets ts) ∙ ap (between 0 height) (signs_are sets ts))
 
-sign_is : (sets : List (List ℕ)) (ts : List WorkToken) (i : ℕ) (d : Shaded) (g : Sign) → i < length ts → get_or (signs_of ts) i g ≡ g → sign_of_token (get_or (seen_all sets ts) i d) ≡ g
+pub sign_is : (sets : List (List ℕ)) (ts : List WorkToken) (i : ℕ) (d : Shaded) (g : Sign) → i < length ts → get_or (signs_of ts) i g ≡ g → sign_of_token (get_or (seen_all sets ts) i d) ≡ g
 sign_is sets [] i d g h e = absurd (omega arith)
 sign_is sets (t ∷ ts) zero d g h e = e
 sign_is sets (t ∷ ts) (suc i) d g h e = sign_is sets ts i d g (omega arith) e
@@ -194,7 +194,7 @@ pub behind_one : (args : List (List Shaded)) (a : List Shaded) (o : Option Gathe
 behind_one args a None = refl
 behind_one args a (Some g) = ap (λ xs. Some (record g { arguments = xs })) (sym (append_assoc args (a ∷ []) g.arguments))
 
-no_token : Shaded
+pub no_token : Shaded
 no_token = record { kind = Punct; spaced = false; text = []; hides = λ n. false }
 
 more_left : (g : Sign) (v : Bool) (left : ℕ) → turn_of g v left ≡ More → 1 < left
@@ -242,7 +242,7 @@ module _ (ts : List WorkToken) (floor height count : ℕ) (v : Bool) (ends : Lis
 
     gathered_at : (lacks : Bool) (sets : List (List ℕ))
         → gather v count (between floor height (seen_all sets ts)) ≡ Some (record { arguments = pieces (seen_all sets ts) height ends ++ (between end from (seen_all sets ts) ∷ lacking lacks); close = get_or (seen_all sets ts) (end - 1) no_token; rest = between floor (end - 1) (seen_all sets ts) })
-        → IsGathered (gather v count (between floor height (seen_all sets ts))) (seen_all sets ts) floor height all lacks
+        → IsGathered (gather v count (between floor height (seen_all sets ts))) (seen_all sets ts) count floor height all lacks
     gathered_at lacks sets m =
         let ss = seen_all sets ts in
         let l = all_last in
@@ -257,17 +257,19 @@ module _ (ts : List WorkToken) (floor height count : ℕ) (v : Bool) (ends : Lis
           descending = all_down;
           above = omega (arith, l, fl);
           within = omega (arith, l, below, from_within);
+          few = omega (arith, ap length a, length-append ends (end ∷ []), h.counted, h.some);
         }
 
-    pub so_far_last : turn_of g v left ≡ Last → (sets : List (List ℕ)) → IsGathered (gather v count (between floor height (seen_all sets ts))) (seen_all sets ts) floor height all false
+    pub so_far_last : turn_of g v left ≡ Last → (sets : List (List ℕ)) → IsGathered (gather v count (between floor height (seen_all sets ts))) (seen_all sets ts) count floor height all false
     so_far_last m sets = gathered_at false sets (so_far Last m sets)
 
-    pub so_far_lacks : turn_of g v left ≡ Lacks → (sets : List (List ℕ)) → IsGathered (gather v count (between floor height (seen_all sets ts))) (seen_all sets ts) floor height all true
+    pub so_far_lacks : turn_of g v left ≡ Lacks → (sets : List (List ℕ)) → IsGathered (gather v count (between floor height (seen_all sets ts))) (seen_all sets ts) count floor height all true
     so_far_lacks m sets = gathered_at true sets (so_far Lacks m sets)
 
     pub so_far_more : turn_of g v left ≡ More → IsSoFar ts floor height count v all (end - 1) (left - 1)
     so_far_more m = record {
       some = omega (arith, more_left g v left m);
+      counted = omega (arith, more_left g v left m, ap length a, length-append ends (end ∷ []), h.counted);
       from_is = sym (ap (end_of height) a ∙ end_push height ends end);
       above = omega (arith, fl);
       descending = all_down;
@@ -300,22 +302,23 @@ unfolding gather closed
 none_empty v ts e = ap (λ x. closed [] x) e
 
 pub none_is : (sets : List (List ℕ)) (ts : List WorkToken) (floor height : ℕ) (v : Bool) (g : Sign) (ends : List ℕ) → floor < height → height ≤ length ts → ((other : Sign) → get_or (signs_of ts) (height - 1) other ≡ g) → is_close g ≡ true → ends ≡ []
-    → IsGathered (gather v 0 (between floor height (seen_all sets ts))) (seen_all sets ts) floor height ends false
+    → IsGathered (gather v 0 (between floor height (seen_all sets ts))) (seen_all sets ts) 0 floor height ends false
 none_is sets ts floor height v g ends a b s n e =
     let ss = seen_all sets ts in
     let l = length-map ts (seen sets) in
     let m : height - 1 + 1 ≡ height = omega arith in
     let top : between floor height ss ≡ get_or ss (height - 1) no_token ∷ between floor (height - 1) ss =
     ap (λ n. between floor n ss) (sym m) ∙ between_more floor (height - 1) ss no_token (omega arith) (omega arith) in
-    let made : IsGathered (gather v 0 (between floor height ss)) ss floor height [] false = record {
+    let made : IsGathered (gather v 0 (between floor height ss)) ss 0 floor height [] false = record {
       close = get_or ss (height - 1) no_token;
       at = λ other. get_or_default ss (height - 1) other no_token (omega arith);
       is = none_gathered v (between floor height ss) (get_or ss (height - 1) no_token) (between floor (height - 1) ss) top (ap is_close (sign_is sets ts (height - 1) no_token g (omega arith) (s g)) ∙ n);
       descending = tt;
       above = a;
       within = omega arith;
+      few = omega arith;
     } in
-    subst (λ es. IsGathered (gather v 0 (between floor height ss)) ss floor height es false) (sym e) made
+    subst (λ es. IsGathered (gather v 0 (between floor height ss)) ss 0 floor height es false) (sym e) made
 
 -- the token on top
 pub between_seen : (sets : List (List ℕ)) (ts : List WorkToken) (low i : ℕ) (t : WorkToken) → low ≤ i → i < length ts → t ≡ get_or ts i t

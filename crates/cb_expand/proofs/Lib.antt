@@ -7,3 +7,6 @@ pub mod Putting
 pub mod Resuming
 pub mod ByEnds
 pub mod Readings
+pub mod Headings
+pub mod Begun
+pub mod Runs

@@ -1,6 +1,7 @@
 -- Replacement and rescanning (6.10.3, 6.10.3.4, with Prosser's hide sets).
-use Rattle.std.specs.Prelude.{◌≡◌, ℕ, ◌+◌, ◌<◌, false, List, [], ◌∷◌, ◌++◌, length, map}
+use Rattle.std.specs.Prelude.{◌≡◌, ℕ, ◌+◌, ◌<◌, ◌≤◌, false, List, [], ◌∷◌, ◌++◌, length, map}
 use Rattle.cb_tokens.specs.declared.token.Token.{Token}
+use Rattle.cb_expand.specs.declared.limits.TheConstants.{COST_LIMIT}
 use Rattle.cb_expand.specs.declared.mode.Mode.{Mode}
 use Rattle.cb_paste.specs.Shades.{Shaded}
 use Rattle.cb_expand.specs.Heads.{Named, Insertion, Stands, Calls, head, put}
@@ -36,6 +37,10 @@ abbrev pub IsExpansion : Named → Mode → List Token → List Token → ℕ �
 IsExpansion ms mode tokens out n =
     (shaded : List Shaded) × Expands ms mode (map bare tokens) shaded n × (map plain shaded ≡ out)
 
--- no expansion costs so little (own)
-abbrev pub IsTooLong : Named → Mode → List Token → ℕ → Type 0
-IsTooLong ms mode tokens limit = (out : List Token) (n : ℕ) → IsExpansion ms mode tokens out n → limit < n
+-- the tokens are replaced by these, at a cost within the limit (6.10.3; the limit is own)
+abbrev pub IsReplacement : Named → Mode → List Token → List Token → Type 0
+IsReplacement ms mode tokens out = (n : ℕ) × IsExpansion ms mode tokens out n × (n ≤ COST_LIMIT)
+
+-- every expansion costs more than the limit (own)
+abbrev pub IsTooDear : Named → Mode → List Token → Type 0
+IsTooDear ms mode tokens = (out : List Token) (n : ℕ) → IsExpansion ms mode tokens out n → COST_LIMIT < n

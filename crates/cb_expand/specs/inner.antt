@@ -4,3 +4,5 @@ pub mod Rows
 pub mod Works
 pub mod Gathers
 pub mod Readings
+pub mod Lefts
+pub mod Sources

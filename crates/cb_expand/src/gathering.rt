@@ -79,7 +79,8 @@ fn some_ends(
     requires some { 0 < count }
     ensures { (sets : List (List ℕ)) → IfOk result (λ o. MatchOption o
         (gather is_variadic count (between floor height (seen_all sets row.now.tokens.items)) ≡ None)
-        (λ g. IsGathered (gather is_variadic count (between floor height (seen_all sets row.now.tokens.items))) (seen_all sets row.now.tokens.items) floor height g.ends.items g.lacks_rest)) }
+        (λ g. IsGathered (gather is_variadic count (between floor height (seen_all sets row.now.tokens.items)))
+        (seen_all sets row.now.tokens.items) count floor height g.ends.items g.lacks_rest)) }
 {
     let mut ends = Vec::new(alloc);
     let mut from = height;
@@ -111,7 +112,8 @@ fn some_ends(
     }
 }
 
-/// Where the arguments of a call end, if the tokens behind its opening parenthesis reach to a height; None where it is no call.
+/// Where the arguments of a call end, if the tokens behind its opening parenthesis reach to a height; None where it is no
+/// call.
 pub(crate) fn argument_ends(
     alloc: Global,
     row: &Row,
@@ -125,7 +127,8 @@ pub(crate) fn argument_ends(
     requires floor { floor ≤ height }
     ensures { (sets : List (List ℕ)) → IfOk result (λ o. MatchOption o
         (gather is_variadic count (between floor height (seen_all sets row.now.tokens.items)) ≡ None)
-        (λ g. IsGathered (gather is_variadic count (between floor height (seen_all sets row.now.tokens.items))) (seen_all sets row.now.tokens.items) floor height g.ends.items g.lacks_rest)) }
+        (λ g. IsGathered (gather is_variadic count (between floor height (seen_all sets row.now.tokens.items)))
+        (seen_all sets row.now.tokens.items) count floor height g.ends.items g.lacks_rest)) }
 {
     if count > 0 {
         return some_ends(alloc, row, floor, height, count, is_variadic);

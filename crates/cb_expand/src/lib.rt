@@ -2,17 +2,25 @@
 #![tactic(auto)]
 
 mod asking;
+mod calling;
+mod expansion;
 mod fault;
 mod gathering;
+mod heading;
 mod laws;
+mod limits;
 mod mode;
+mod numbers;
 mod reading;
 mod row;
 mod sign;
+mod source;
 mod steps;
 mod work;
 
+pub use expansion::expand;
 pub use fault::ExpandFault;
 pub use laws::one_expansion;
+pub use limits::COST_LIMIT;
 pub use mode::Mode;
 pub use sign::Sign;

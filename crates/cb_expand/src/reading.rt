@@ -4,27 +4,22 @@ ghost use Rattle.cb_paste.specs.Shades.{seen};
 ghost use Rattle.cb_expand.specs.declared.mode.Mode.{Mode as Tongue};
 ghost use Rattle.cb_expand.specs.Heads.{Named, Head, answer_token};
 ghost use Rattle.cb_expand.specs.inner.Rows.{signs, between, IsRow};
-ghost use Rattle.cb_expand.specs.inner.Works.{IsWork, Exceeds, row_of};
+ghost use Rattle.cb_expand.specs.inner.Works.{IsWork, Exceeds, Stepped, row_of, state_of};
 ghost use Rattle.cb_expand.specs.inner.Readings.{Taken, head_of, rest_of, reading, named_call};
 
+use crate::calling::begin_call;
 use crate::fault::ExpandFault;
-use crate::steps::{COST_LIMIT, put_in};
-use crate::work::Work;
+use crate::heading::{Heading, heading_of};
+use crate::limits::COST_LIMIT;
+use crate::mode::Mode;
+use crate::numbers::small;
+use crate::steps::put_in;
+use crate::work::{Call, Work};
 use cb_macro::Macros;
 use cb_paste::WorkToken;
 use cb_paths::{Bytes, NoMemory};
 use cb_tokens::TokenKind;
 use std::alloc::Global;
-
-/// A place as it stands in hide sets, which hold 2^32 of them.
-fn small(place: usize) -> Result<u32, NoMemory>
-    ensures { IfOk result (λ small. small ≡ place) }
-{
-    if place > u32::MAX as usize {
-        return Err(NoMemory);
-    }
-    Ok(place as u32)
-}
 
 /// Replaces the name of an object-like macro.
 fn replace_name(
@@ -37,10 +32,13 @@ fn replace_name(
     requires work { IsWork (length macros.now) work.old None }
     requires place { place < length macros.now }
     requires token { token.now.hides ≤ length work.old.arena }
-    ensures taken { (mode : Tongue) → head_of macros.now mode work.old token.now ≡ named_call macros.now work.old token.now place
+    ensures taken { (mode : Tongue)
+        → head_of macros.now mode work.old token.now ≡ named_call macros.now work.old token.now place
         → OnOk result (Taken macros.now mode work.old token.now work.new None) }
-    ensures long { (mode : Tongue) → head_of macros.now mode work.old token.now ≡ named_call macros.now work.old token.now place
-        → result ≡ Err ExpandFault.TooLong → Exceeds macros.now mode (reading macros.now work.old token.now) work.old.used }
+    ensures long { (mode : Tongue)
+        → head_of macros.now mode work.old token.now ≡ named_call macros.now work.old token.now place
+        → result ≡ Err ExpandFault.TooLong
+        → Exceeds macros.now mode (reading macros.now work.old token.now) work.old.used }
 {
     if work.used + work.frames.len() >= COST_LIMIT {
         return Err(ExpandFault::TooLong);
@@ -70,7 +68,8 @@ fn answer(
     requires row { IsRow (signs work.old.row.tokens.items) work.old.row.ends.items }
     ensures { (ms : Named) (mode : Tongue) → IsWork (length ms) work.old None → token.hides ≤ length work.old.arena
         → work.old.floor ≤ height → height ≤ length work.old.row.tokens.items
-        → head_of ms mode work.old token ≡ Head.Stands (answer_token (seen work.old.arena token) is_defined) (between work.old.floor height (row_of work.old))
+        → head_of ms mode work.old token ≡ Head.Stands (answer_token (seen work.old.arena token) is_defined)
+        (between work.old.floor height (row_of work.old))
         → OnOk result (Taken ms mode work.old token work.new None) }
 {
     work.row.truncate(height);
@@ -92,4 +91,58 @@ fn digit_of(alloc: Global, is_one: bool) -> Result<Bytes, NoMemory>
         return Bytes::from_slice(alloc, b"1".as_slice());
     }
     Bytes::from_slice(alloc, b"0".as_slice())
+}
+
+/// Deals with a token that was taken from the row.
+fn deal(
+    alloc: Global,
+    macros: &Macros,
+    mode: Mode,
+    work: &mut Work,
+    token: WorkToken,
+) -> Result<Option<Call>, ExpandFault>
+    requires work { IsWork (length macros.now) work.old None }
+    requires token { token.hides ≤ length work.old.arena }
+    ensures taken { IfOk result (λ behind. Taken macros.now mode work.old token work.new behind) }
+    ensures long { result ≡ Err ExpandFault.TooLong
+        → Exceeds macros.now mode (reading macros.now work.old token) work.old.used }
+{
+    let heading = heading_of(alloc, macros, mode, work, &token)?;
+    match heading {
+        Heading::Stands => {
+            stand(work, token)?;
+            Ok(None)
+        }
+        Heading::Asks(is_defined, height) => {
+            answer(alloc, work, token, is_defined, height)?;
+            Ok(None)
+        }
+        Heading::Object(place) => {
+            replace_name(alloc, macros, work, &token, place)?;
+            Ok(None)
+        }
+        Heading::Function(place, gathered) => {
+            let call = begin_call(alloc, macros, work, &token, place, gathered)?;
+            Ok(Some(call))
+        }
+    }
+}
+
+/// Reads the next token of the innermost list.
+pub(crate) fn read(
+    alloc: Global,
+    macros: &Macros,
+    mode: Mode,
+    work: &mut Work,
+) -> Result<Option<Call>, ExpandFault>
+    requires work { IsWork (length macros.now) work.old None }
+    requires more { work.old.floor < length work.old.row.tokens.items }
+    ensures steps { IfOk result (λ behind. Stepped macros.now mode work.old None work.new behind) }
+    ensures long { result ≡ Err ExpandFault.TooLong
+        → Exceeds macros.now mode (state_of macros.now work.old None) work.old.used }
+{
+    let Some(token) = work.row.pop() else {
+        return Ok(None);
+    };
+    deal(alloc, macros, mode, work, token)
 }

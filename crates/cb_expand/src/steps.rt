@@ -9,15 +9,13 @@ ghost use Rattle.cb_expand.specs.inner.Rows.{signs, IsRow};
 ghost use Rattle.cb_expand.specs.inner.Works.{put_of, raws, became, lacking, Added, IsWork, Stepped, IsReplaceable, resumed, outer_of, state_of, Goes, Exceeds, weight};
 
 use crate::fault::ExpandFault;
+use crate::limits::COST_LIMIT;
 use crate::work::{Call, Frame, Left, Work};
 use cb_macro::Macros;
 use cb_paste::{Argument, PasteFault, Site, substitute};
 use cb_paths::NoMemory;
 use std::alloc::Global;
 use std::mem;
-
-/// What one expansion may cost.
-pub(crate) const COST_LIMIT: usize = 65_536;
 
 /// What it means here that nothing was put in.
 fn fault_of(fault: PasteFault) -> ExpandFault

@@ -1,5 +1,5 @@
 -- Gathering the arguments of a call.
-use Rattle.std.specs.Prelude.{◌≡◌, ℕ, zero, suc, ◌-◌, ◌<◌, ◌≤◌, Bool, true, not, List, [], ◌∷◌, ◌++◌, slice_index_or, Option, Some, None}
+use Rattle.std.specs.Prelude.{◌≡◌, ℕ, zero, suc, ◌+◌, ◌-◌, ◌<◌, ◌≤◌, Bool, true, not, List, [], ◌∷◌, ◌++◌, length, slice_index_or, Option, Some, None}
 use Rattle.std.specs.Option.{option_map}
 use Rattle.cb_paste.specs.Shades.{Shaded}
 use Rattle.cb_expand.specs.declared.sign.Sign.{Sign}
@@ -59,17 +59,19 @@ last_of from [] = from
 last_of from (e ∷ es) = last_of e es
 
 -- the arguments are gathered by these ends (own)
-pub record IsGathered (o : Option Gathered) (ss : List Shaded) (floor height : ℕ) (ends : List ℕ) (lacks : Bool) : Type 0 where
+pub record IsGathered (o : Option Gathered) (ss : List Shaded) (count floor height : ℕ) (ends : List ℕ) (lacks : Bool) : Type 0 where
   pub close : Shaded
   pub at : (other : Shaded) → slice_index_or ss (last_of height ends - 1) other ≡ close
   pub is : o ≡ Some (record { arguments = pieces ss height ends ++ lacking lacks; close = close; rest = between floor (last_of height ends - 1) ss })
   pub descending : AreDescending height floor ends
   pub above : floor < last_of height ends
   pub within : last_of height ends ≤ height
+  pub few : length ends ≤ count
 
 -- so far the arguments are gathered by these ends (own)
 pub record IsSoFar (ts : List WorkToken) (floor height count : ℕ) (variadic : Bool) (ends : List ℕ) (from left : ℕ) : Type 0 where
   pub some : 0 < left
+  pub counted : length ends + left ≡ count
   pub from_is : from ≡ end_of height ends
   pub above : floor ≤ from
   pub descending : AreDescending height floor ends

@@ -24,5 +24,5 @@ pub returns : goal.returns
 returns c = λ sets.
     let z : c.args.count ≡ 0 = omega (arith, c.if-count-gt0.false) in
     let n : c.is_close.result ≡ true = search rules in
-    subst (λ n. IsGathered (gather c.args.is_variadic n (between c.args.floor c.args.height (seen_all sets c.args.row.now.tokens.items))) (seen_all sets c.args.row.now.tokens.items) c.args.floor c.args.height c.new.result.items false) (sym z)
+    subst (λ n. IsGathered (gather c.args.is_variadic n (between c.args.floor c.args.height (seen_all sets c.args.row.now.tokens.items))) (seen_all sets c.args.row.now.tokens.items) n c.args.floor c.args.height c.new.result.items false) (sym z)
     (none_is sets c.args.row.now.tokens.items c.args.floor c.args.height c.args.is_variadic c.sign.result c.new.result.items (omega (arith, c.requires.floor, c.if-height-floor.false)) c.requires.within c.sign.ensures (sym c.is_close.ensures ∙ n) c.new.ensures.items)
