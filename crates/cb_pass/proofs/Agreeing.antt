@@ -9,7 +9,6 @@ use Rattle.cb_tree.specs.Skeleton.{Bone}
 use Rattle.cb_include.specs.declared.command.Command.{Command}
 use Rattle.cb_include.specs.declared.header.Header.{Header}
 use Rattle.cb_pass.specs.Notes.{Place}
-use Rattle.cb_pass.specs.Macros.{Expansion}
 use Rattle.cb_pass.specs.Answers.{Answer}
 use Rattle.cb_pass.specs.States.{State, Outcome}
 use Rattle.cb_pass.specs.Steps.{turned_in}
@@ -19,7 +18,7 @@ use Rattle.cb_pass.specs.Files.{Files, Request, Stays, Begins, Searches, request
 use Rattle.cb_pass.specs.Passes.{Leads, over, goes, start, start_with, IsPass}
 use Rattle.cb_pass.proofs.Grown.{Grows, with_paths_grows, found_probes, leads_grows}
 
-module _ (Expands : Expansion) (files other : Files) where
+module _ (files other : Files) where
   front : (paths more : List (List ℕ)) → Agree files other (paths ++ more) → Agree files other paths
   front [] more a = tt
   front (path ∷ paths) more a = (a.0, front paths more a.1)
@@ -120,21 +119,21 @@ module _ (Expands : Expansion) (files other : Files) where
     same_stepped : (answer : Answer) (s : State) → Agree files other (stepped files command answer s).probes → stepped files command answer s ≡ stepped other command answer s
     same_stepped answer s a = same_met (request command answer s) (turned_in (start_of command) answer s.frames s.waiting s) a
 
-    same_leads : (end : Outcome) (s : State) → Agree files other end.probes → Leads Expands files command end s → Leads Expands other command end s
+    same_leads : (end : Outcome) (s : State) → Agree files other end.probes → Leads files command end s → Leads other command end s
     same_leads end s a (over h e) = over h e
     same_leads end s a (goes h answer says more) =
         let t : State = stepped files command answer s in
-        let a1 : Agree files other t.probes = before t.probes end.probes (leads_grows Expands files command end t more) a in
-        goes h answer says (subst (λ (u : State). Leads Expands other command end u) (same_stepped answer s a1) (same_leads end t a more))
+        let a1 : Agree files other t.probes = before t.probes end.probes (leads_grows files command end t more) a in
+        goes h answer says (subst (λ (u : State). Leads other command end u) (same_stepped answer s a1) (same_leads end t a more))
 
   start_probes : (command : Command) (bones : Option (List Bone)) → (start_with command bones).probes ≡ command.main ∷ []
   start_probes command None = refl
   start_probes command (Some bones) = refl
 
-  pub same_pass : (command : Command) (end : Outcome) → IsPass Expands files command end → Agree files other end.probes → IsPass Expands other command end
+  pub same_pass : (command : Command) (end : Outcome) → IsPass files command end → Agree files other end.probes → IsPass other command end
   same_pass command end pass a =
       let a1 : Agree files other (command.main ∷ []) =
       subst (Agree files other) (start_probes command (files command.main))
-      (before (start files command).probes end.probes (leads_grows Expands files command end (start files command) pass) a) in
-      subst (λ (s : State). Leads Expands other command end s) (ap (start_with command) a1.0)
+      (before (start files command).probes end.probes (leads_grows files command end (start files command) pass) a) in
+      subst (λ (s : State). Leads other command end s) (ap (start_with command) a1.0)
       (same_leads command a1.0 end (start files command) a pass)

@@ -11,7 +11,6 @@ use Rattle.cb_tree.specs.Kinds.{rest_of}
 use Rattle.cb_include.specs.declared.command.Command.{Command}
 use Rattle.cb_include.specs.declared.header.Header.{Header}
 use Rattle.cb_pass.specs.Notes.{Place}
-use Rattle.cb_pass.specs.Macros.{Expansion}
 use Rattle.cb_pass.specs.Answers.{Answer, Silent, Defines, Undefines, Wordless, Holds, Faulty, Names, Nameless, Long}
 use Rattle.cb_pass.specs.States.{Frame, Waiting, Given, Forced, Main, State, Outcome}
 use Rattle.cb_pass.specs.Steps.{first_name, answered, name_noted, effect, counted, behind, turned_frame, word_of, turned_waiting, turned_in, is_active, is_reached, is_spent, place_in, moved, ended}
@@ -135,8 +134,8 @@ stepped_grows files command answer s =
     (same_grows _ _ (sym (turned_probes (start_of command) answer s.frames s.waiting s)))
     (met_grows files command (request command answer s) t)
 
-pub leads_grows : (Expands : Expansion) (files : Files) (command : Command) (end : Outcome) (s : State) → Leads Expands files command end s → Grows s.probes end.probes
-leads_grows Expands files command end s (over h e) = same_grows _ _ (ap (λ (o : Outcome). o.probes) e)
-leads_grows Expands files command end s (goes h answer says more) =
+pub leads_grows : (files : Files) (command : Command) (end : Outcome) (s : State) → Leads files command end s → Grows s.probes end.probes
+leads_grows files command end s (over h e) = same_grows _ _ (ap (λ (o : Outcome). o.probes) e)
+leads_grows files command end s (goes h answer says more) =
     grows_on s.probes (stepped files command answer s).probes end.probes (stepped_grows files command answer s)
-    (leads_grows Expands files command end (stepped files command answer s) more)
+    (leads_grows files command end (stepped files command answer s) more)

@@ -7,3 +7,6 @@ pub mod Rows
 pub mod SameNotes
 pub mod PassRows
 pub mod Joined
+pub mod Moves
+pub mod Unreached
+pub mod Leaping

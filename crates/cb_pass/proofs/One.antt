@@ -6,8 +6,6 @@ use Rattle.cb_tokens.specs.declared.token.Token.{Token}
 use Rattle.cb_cond.specs.declared.bad_condition.BadCondition.{BadCondition}
 use Rattle.cb_cond.specs.Symbols.{symbols}
 use Rattle.cb_cond.specs.Faults.{IsAnswer}
-use Rattle.cb_pass.specs.declared.expander.Mode.{Mode}
-use Rattle.cb_pass.specs.declared.expander.Mode.TheVariants as mode
 use Rattle.cb_macro.specs.Definitions.{Definition, defines, undefines}
 use Rattle.cb_macro.specs.Maps.{found, IsChange}
 use Rattle.cb_macro.specs.Words.{AreLogicalLines, first_line, definition_text, first_tokens, WordDefines, WordUndefines}
@@ -20,7 +18,11 @@ use Rattle.cb_include.specs.declared.op.Op.TheVariants.{Define, Undef}
 use Rattle.cb_include.specs.declared.command.Command.{Command}
 use Rattle.cb_include.specs.declared.header.Header.{Header}
 use Rattle.cb_pass.specs.Headers.{header_of}
-use Rattle.cb_pass.specs.Macros.{Macros, Expansion, cost_limit, IsReplacement, IsTooDear}
+use Rattle.cb_expand.specs.declared.limits.TheConstants.{COST_LIMIT}
+use Rattle.cb_expand.specs.declared.mode.Mode.{Mode}
+use Rattle.cb_expand.specs.declared.mode.Mode.TheVariants as mode
+use Rattle.cb_expand.specs.Expansion.{IsExpansion, IsReplacement, IsTooDear}
+use Rattle.cb_pass.specs.Macros.{Macros}
 use Rattle.cb_pass.specs.Answers.{Question, Nothing, Word, Defining, Undefining, Truth, Named, Answer, Defines, IsAnswered, IsDefinition, IsWord, IsReplaced, IsTruth, IsNamed, undefines_or_not, holds_or_not, named_or_not}
 use Rattle.cb_pass.specs.States.{State, Outcome}
 use Rattle.cb_pass.specs.Steps.{question}
@@ -28,9 +30,9 @@ use Rattle.cb_pass.specs.Files.{Files, stepped}
 use Rattle.cb_pass.specs.Passes.{Leads, over, goes, start, IsPass}
 
 -- what replacement makes of tokens, and what it costs, is one
-abbrev pub OneExpansion : Expansion → Type 0
-OneExpansion Expands = (macros : Macros) (mode : Mode) (tokens out other : List Token) (cost price : ℕ)
-    → Expands macros mode tokens out cost → Expands macros mode tokens other price → (out ≡ other) × (cost ≡ price)
+abbrev pub OneExpansion : Type 0
+OneExpansion = (macros : Macros) (mode : Mode) (tokens out other : List Token) (cost price : ℕ)
+    → IsExpansion macros mode tokens out cost → IsExpansion macros mode tokens other price → (out ≡ other) × (cost ≡ price)
 
 -- a condition has one value
 abbrev pub OneCondition : Type 0
@@ -44,13 +46,13 @@ OneCut = (ms : List Mark) (a b : List Line) → AreLinesOf ms a → AreLinesOf m
 abbrev pub NoCut : Type 0
 NoCut = (ms : List Mark) (ps : List Piece) (line : ℕ) → IsCut ms ps → HasOpenComment ms line → ⊥
 
-module _ (Expands : Expansion) (expansion : OneExpansion Expands) (condition : OneCondition) (cut : OneCut) (no_cut : NoCut) where
-  not_both : (macros : Macros) (mode : Mode) (tokens out : List Token) → IsReplacement Expands macros mode tokens out → IsTooDear Expands macros mode tokens → ⊥
-  not_both macros mode tokens out e long = let h : cost_limit < e.0 = long out e.0 e.1 in let k : e.0 ≤ cost_limit = e.2 in omega arith
+module _ (expansion : OneExpansion) (condition : OneCondition) (cut : OneCut) (no_cut : NoCut) where
+  not_both : (macros : Macros) (mode : Mode) (tokens out : List Token) → IsReplacement macros mode tokens out → IsTooDear macros mode tokens → ⊥
+  not_both macros mode tokens out e long = let h : COST_LIMIT < e.0 = long out e.0 e.1 in let k : e.0 ≤ COST_LIMIT = e.2 in omega arith
 
   one_replaced : (macros : Macros) (mode : Mode) (tokens : List Token) (Says : List Token → Answer → Type 0) (a b : Answer)
       → ((out : List Token) → Says out a → Says out b → a ≡ b)
-      → IsReplaced Expands macros mode tokens Says a → IsReplaced Expands macros mode tokens Says b → a ≡ b
+      → IsReplaced macros mode tokens Says a → IsReplaced macros mode tokens Says b → a ≡ b
   one_replaced macros mode tokens Says a b h (inl x) (inl y) =
       let same : x.0 ≡ y.0 = (expansion macros mode tokens x.0 y.0 x.1.0 y.1.0 x.1.1 y.1.1).0 in
       h y.0 (subst (λ (out : List Token). Says out a) same x.2) y.2
@@ -92,13 +94,13 @@ module _ (Expands : Expansion) (expansion : OneExpansion Expands) (condition : O
       one_definition macros y.0 a b (subst (λ (d : Option (List ℕ × Definition)). IsDefinition macros d a) (one_defined word x.0 y.0 x.1 y.1) x.2) y.2
   one_word macros (Undef word) a b x y = x.2 ∙ (ap undefines_or_not (one_undefined word x.0 y.0 x.1 y.1) ∙ sym y.2)
 
-  one_named : (macros : Macros) (tokens : List Token) (header : Option Header) (a b : Answer) → IsNamed Expands macros tokens header a → IsNamed Expands macros tokens header b → a ≡ b
+  one_named : (macros : Macros) (tokens : List Token) (header : Option Header) (a b : Answer) → IsNamed macros tokens header a → IsNamed macros tokens header b → a ≡ b
   one_named macros tokens (Some h) a b x y = x ∙ sym y
   one_named macros tokens None a b x y =
       one_replaced macros mode.Plain tokens (λ out said. said ≡ named_or_not (header_of out)) a b (λ out p q. p ∙ sym q) x y
 
   one_answer : (language : Language) (macros : Macros) (question : Question) (a b : Answer)
-      → IsAnswered Expands language macros question a → IsAnswered Expands language macros question b → a ≡ b
+      → IsAnswered language macros question a → IsAnswered language macros question b → a ≡ b
   one_answer language macros Nothing a b x y = x ∙ sym y
   one_answer language macros (Word op) a b x y = one_word macros op a b x y
   one_answer language macros (Defining tokens) a b x y = one_definition macros (defines tokens) a b x y
@@ -106,13 +108,13 @@ module _ (Expands : Expansion) (expansion : OneExpansion Expands) (condition : O
   one_answer language macros (Truth tokens) a b x y = one_replaced macros mode.Condition tokens (IsTruth language) a b (one_truth language a b) x y
   one_answer language macros (Named tokens) a b x y = one_named macros tokens (header_of tokens) a b x y
 
-  one_end : (files : Files) (command : Command) (a b : Outcome) (s : State) → Leads Expands files command a s → Leads Expands files command b s → a ≡ b
+  one_end : (files : Files) (command : Command) (a b : Outcome) (s : State) → Leads files command a s → Leads files command b s → a ≡ b
   one_end files command a b s (over h e) (over k f) = sym e ∙ f
   one_end files command a b s (over h e) (goes k answer says more) = absurd cc
   one_end files command a b s (goes h answer says more) (over k f) = absurd cc
   one_end files command a b s (goes h answer says more) (goes k reply tells rest) =
       one_end files command a b (stepped files command answer s) more
-      (subst (λ (x : Answer). Leads Expands files command b (stepped files command x s)) (one_answer command.language s.macros (question s) reply answer tells says) rest)
+      (subst (λ (x : Answer). Leads files command b (stepped files command x s)) (one_answer command.language s.macros (question s) reply answer tells says) rest)
 
-  pub one_outcome : (files : Files) (command : Command) (a b : Outcome) → IsPass Expands files command a → IsPass Expands files command b → a ≡ b
+  pub one_outcome : (files : Files) (command : Command) (a b : Outcome) → IsPass files command a → IsPass files command b → a ≡ b
   one_outcome files command a b x y = one_end files command a b (start files command) x y

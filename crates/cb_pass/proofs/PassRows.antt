@@ -14,15 +14,10 @@ use Rattle.cb_include.specs.declared.command.Command.{Command}
 use Rattle.cb_pass.specs.Headers.{header_of}
 use Rattle.cb_pass.specs.Notes.{noted}
 use Rattle.cb_pass.specs.Answers.{Question, Nothing, Word, Defining, Undefining, Truth, Named, Answer, Silent, named_or_not}
-use Rattle.cb_pass.specs.Macros.{Expansion}
 use Rattle.cb_pass.specs.States.{State, Outcome, outcome}
 use Rattle.cb_pass.specs.Steps.{question}
 use Rattle.cb_pass.specs.Files.{Files, stepped}
 use Rattle.cb_pass.specs.Passes.{over, goes, start, IsPass}
-
--- nothing is replaced
-abbrev never : Expansion
-never macros mode tokens out cost = ⊥
 
 -- the answers that ask no macros
 plain : Question → Answer
@@ -71,7 +66,7 @@ run files zero s = s
 run files (suc n) s = run files n (next files s)
 
 -- four nodes are reached, and the header is read once
-twice_read : (end : Outcome) × IsPass never twice told end × (end.count ≡ 4) × (end.probes ≡ codes "m.c" ∷ codes "h.h" ∷ []) × (end.notes ≡ [])
+twice_read : (end : Outcome) × IsPass twice told end × (end.count ≡ 4) × (end.probes ≡ codes "m.c" ∷ codes "h.h" ∷ []) × (end.notes ≡ [])
 unfolding plain told identifier hash text includes twice next run file_at folder_holding is_up is_kept noted
 twice_read = (
   outcome (run twice 7 (start twice told)),
@@ -97,7 +92,7 @@ before : ℕ → State
 before n = run chosen n (start chosen told)
 
 -- all but the first group are reached
-chosen_read : (end : Outcome) × IsPass never chosen told end × (end.count ≡ 5) × (end.reached (codes "m.c") 2 ≡ false) × (end.reached (codes "m.c") 4 ≡ true)
+chosen_read : (end : Outcome) × IsPass chosen told end × (end.count ≡ 5) × (end.reached (codes "m.c") 2 ≡ false) × (end.reached (codes "m.c") 4 ≡ true)
 unfolding plain told identifier hash text chosen next run noted before
 chosen_read = (
   outcome (before 8),

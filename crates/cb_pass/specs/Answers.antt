@@ -11,10 +11,11 @@ use Rattle.cb_macro.specs.Words.{WordDefines, WordUndefines}
 use Rattle.cb_include.specs.declared.op.Op.{Op}
 use Rattle.cb_include.specs.declared.op.Op.TheVariants.{Define, Undef}
 use Rattle.cb_include.specs.declared.header.Header.{Header}
-use Rattle.cb_pass.specs.declared.expander.Mode.{Mode}
-use Rattle.cb_pass.specs.declared.expander.Mode.TheVariants as mode
+use Rattle.cb_expand.specs.declared.mode.Mode.{Mode}
+use Rattle.cb_expand.specs.declared.mode.Mode.TheVariants as mode
+use Rattle.cb_expand.specs.Expansion.{IsReplacement, IsTooDear}
 use Rattle.cb_pass.specs.Headers.{header_of}
-use Rattle.cb_pass.specs.Macros.{Macros, Expansion, IsReplacement, IsTooDear}
+use Rattle.cb_pass.specs.Macros.{Macros}
 
 -- what is asked: nothing; what a word of -D or -U says, what tokens behind #define or #undef say; whether tokens hold
 -- as a condition; which header they name (own)
@@ -58,10 +59,10 @@ IsWord macros (Undef word) answer =
     (name : Option (List ℕ)) × WordUndefines word name × (answer ≡ undefines_or_not name)
 
 -- what replacement makes of tokens says this, or it would cost too much (6.10.3; the limit is own)
-abbrev pub IsReplaced : Expansion → Macros → Mode → List Token → (List Token → Answer → Type 0) → Answer → Type 0
-IsReplaced Expands macros mode tokens Says answer =
-    ((out : List Token) × IsReplacement Expands macros mode tokens out × Says out answer)
-    ⊎ (IsTooDear Expands macros mode tokens × (answer ≡ Long))
+abbrev pub IsReplaced : Macros → Mode → List Token → (List Token → Answer → Type 0) → Answer → Type 0
+IsReplaced macros mode tokens Says answer =
+    ((out : List Token) × IsReplacement macros mode tokens out × Says out answer)
+    ⊎ (IsTooDear macros mode tokens × (answer ≡ Long))
 
 -- the answer by the value of a condition (6.10.1 paragraph 4)
 abbrev pub holds_or_not : Result Bool BadCondition → Answer
@@ -79,17 +80,17 @@ named_or_not None = Nameless
 named_or_not (Some h) = if length h.text == 0 then Nameless else Names h
 
 -- which header tokens name: as they are written, else as they are replaced (6.10.2, paragraphs 2 to 4)
-abbrev pub IsNamed : Expansion → Macros → List Token → Option Header → Answer → Type 0
-IsNamed Expands macros tokens (Some h) answer = answer ≡ named_or_not (Some h)
-IsNamed Expands macros tokens None answer =
-    IsReplaced Expands macros mode.Plain tokens (λ out said. said ≡ named_or_not (header_of out)) answer
+abbrev pub IsNamed : Macros → List Token → Option Header → Answer → Type 0
+IsNamed macros tokens (Some h) answer = answer ≡ named_or_not (Some h)
+IsNamed macros tokens None answer =
+    IsReplaced macros mode.Plain tokens (λ out said. said ≡ named_or_not (header_of out)) answer
 
 -- the answer to a question (own)
-abbrev pub IsAnswered : Expansion → Language → Macros → Question → Answer → Type 0
-IsAnswered Expands language macros Nothing answer = answer ≡ Silent
-IsAnswered Expands language macros (Word op) answer = IsWord macros op answer
-IsAnswered Expands language macros (Defining tokens) answer = IsDefinition macros (defines tokens) answer
-IsAnswered Expands language macros (Undefining tokens) answer = answer ≡ undefines_or_not (undefines tokens)
-IsAnswered Expands language macros (Truth tokens) answer =
-    IsReplaced Expands macros mode.Condition tokens (IsTruth language) answer
-IsAnswered Expands language macros (Named tokens) answer = IsNamed Expands macros tokens (header_of tokens) answer
+abbrev pub IsAnswered : Language → Macros → Question → Answer → Type 0
+IsAnswered language macros Nothing answer = answer ≡ Silent
+IsAnswered language macros (Word op) answer = IsWord macros op answer
+IsAnswered language macros (Defining tokens) answer = IsDefinition macros (defines tokens) answer
+IsAnswered language macros (Undefining tokens) answer = answer ≡ undefines_or_not (undefines tokens)
+IsAnswered language macros (Truth tokens) answer =
+    IsReplaced macros mode.Condition tokens (IsTruth language) answer
+IsAnswered language macros (Named tokens) answer = IsNamed macros tokens (header_of tokens) answer

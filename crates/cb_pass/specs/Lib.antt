@@ -9,6 +9,7 @@ pub mod Steps
 pub mod Files
 pub mod Passes
 pub mod Reached
+pub mod Ends
 pub mod Meters
 pub mod Maps
 pub mod inner

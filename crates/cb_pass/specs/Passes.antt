@@ -8,7 +8,7 @@ use Rattle.cb_macro.specs.Definitions.{Definition}
 use Rattle.cb_include.specs.declared.command.Command.{Command}
 use Rattle.cb_pass.specs.declared.note.NoteKind.TheVariants as note
 use Rattle.cb_pass.specs.Notes.{note_at}
-use Rattle.cb_pass.specs.Macros.{Macros, Expansion}
+use Rattle.cb_pass.specs.Macros.{Macros}
 use Rattle.cb_pass.specs.Answers.{Answer, IsAnswered}
 use Rattle.cb_pass.specs.States.{Frame, Waiting, Given, Forced, Main, State, Outcome, outcome}
 use Rattle.cb_pass.specs.Steps.{question}
@@ -70,12 +70,12 @@ abbrev pub is_over : State → Bool
 is_over s = is_over_in s.frames s.waiting
 
 -- the steps from a state on lead to this outcome (own)
-pub data Leads (Expands : Expansion) (files : Files) (command : Command) (end : Outcome) : State → Type 0 where
-  over : {s : State} → is_over s ≡ true → outcome s ≡ end → Leads Expands files command end s
+pub data Leads (files : Files) (command : Command) (end : Outcome) : State → Type 0 where
+  over : {s : State} → is_over s ≡ true → outcome s ≡ end → Leads files command end s
   goes : {s : State} → is_over s ≡ false → (answer : Answer)
-      → IsAnswered Expands command.language s.macros (question s) answer
-      → Leads Expands files command end (stepped files command answer s) → Leads Expands files command end s
+      → IsAnswered command.language s.macros (question s) answer
+      → Leads files command end (stepped files command answer s) → Leads files command end s
 
 -- the pass of a command over files has this outcome (own)
-abbrev pub IsPass : Expansion → Files → Command → Outcome → Type 0
-IsPass Expands files command end = Leads Expands files command end (start files command)
+abbrev pub IsPass : Files → Command → Outcome → Type 0
+IsPass files command end = Leads files command end (start files command)

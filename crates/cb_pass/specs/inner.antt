@@ -1,3 +1,5 @@
 -- What private clauses alone cite.
 pub mod Said
 pub mod Memos
+pub mod Trails
+pub mod Moves

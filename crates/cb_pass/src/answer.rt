@@ -3,12 +3,12 @@ ghost use Rattle.std.specs.Prelude.{◌≡◌, IfOk, Some};
 ghost use Rattle.cb_cond.specs.Symbols.{symbols};
 ghost use Rattle.cb_pass.specs.Answers.{Truth, Named, IsAnswered, IsReplaced, holds_or_not, named_or_not};
 ghost use Rattle.cb_pass.specs.Headers.{header_of};
-ghost use Rattle.cb_pass.specs.declared.expander.Mode.TheVariants as mode;
+ghost use Rattle.cb_expand.specs.declared.mode.Mode.TheVariants as mode;
 ghost use Rattle.cb_pass.specs.inner.Said.{said};
 
-use crate::expander::{ExpandFault, Expander, Mode};
 use crate::header::header_of;
 use cb_cond::{BadCondition, value};
+use cb_expand::{ExpandFault, Mode, expand};
 use cb_include::Header;
 use cb_macro::Macros;
 use cb_paths::{Language, NoMemory};
@@ -41,16 +41,15 @@ fn holds_or_not(value: Result<bool, BadCondition>) -> Reply
 }
 
 /// Whether tokens hold as a condition.
-pub(crate) fn truth<E: Expander>(
+pub(crate) fn truth(
     alloc: Global,
-    expander: &E,
     macros: &Macros,
     language: Language,
     tokens: &[Token],
 ) -> Result<Reply, NoMemory>
-    ensures { IfOk result (λ reply. IsAnswered E.expands language macros.now (Truth tokens.now) (said reply)) }
+    ensures { IfOk result (λ reply. IsAnswered language macros.now (Truth tokens.now) (said reply)) }
 {
-    match expander.expand(alloc, macros, tokens, Mode::Condition) {
+    match expand(alloc, macros, tokens, Mode::Condition) {
         Ok(out) => Ok(holds_or_not(value(out.as_slice(), language))),
         Err(ExpandFault::TooLong) => Ok(Reply::Long),
         Err(ExpandFault::NoMemory) => Err(NoMemory),
@@ -79,32 +78,26 @@ fn named(header: Header) -> Reply
 }
 
 /// Which header tokens name: as they are written, else as they are replaced.
-pub(crate) fn header_named<E: Expander>(
+pub(crate) fn header_named(
     alloc: Global,
-    expander: &E,
     macros: &Macros,
     language: Language,
     tokens: &[Token],
 ) -> Result<Reply, NoMemory>
-    ensures { IfOk result (λ reply. IsAnswered E.expands language macros.now (Named tokens.now) (said reply)) }
+    ensures { IfOk result (λ reply. IsAnswered language macros.now (Named tokens.now) (said reply)) }
 {
     match header_of(alloc, tokens)? {
         Some(header) => Ok(named(header)),
-        None => header_replaced(alloc, expander, macros, tokens),
+        None => header_replaced(alloc, macros, tokens),
     }
 }
 
 /// Which header tokens name as they are replaced.
-fn header_replaced<E: Expander>(
-    alloc: Global,
-    expander: &E,
-    macros: &Macros,
-    tokens: &[Token],
-) -> Result<Reply, NoMemory>
-    ensures { IfOk result (λ reply. IsReplaced E.expands macros.now mode.Plain tokens.now
+fn header_replaced(alloc: Global, macros: &Macros, tokens: &[Token]) -> Result<Reply, NoMemory>
+    ensures { IfOk result (λ reply. IsReplaced macros.now mode.Plain tokens.now
         (λ out answer. answer ≡ named_or_not (header_of out)) (said reply)) }
 {
-    match expander.expand(alloc, macros, tokens, Mode::Plain) {
+    match expand(alloc, macros, tokens, Mode::Plain) {
         Ok(out) => {
             let header = header_of(alloc, out.as_slice())?;
             Ok(named_or_not(header))

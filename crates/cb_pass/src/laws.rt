@@ -5,22 +5,23 @@ ghost use Rattle.cb_pass.specs.States.{Outcome};
 ghost use Rattle.cb_pass.specs.Files.{Files, Agree};
 ghost use Rattle.cb_pass.specs.Passes.{IsPass};
 
-use crate::expander::Expander;
 use cb_cond::one_condition;
+use cb_expand::one_expansion;
 use cb_tokens::one_cut;
 
 /// The pass of a command over files has one outcome.
-pub fn one_pass<E: Expander>()
+pub fn one_pass()
     ensures { (files : Files) (command : Told) (a b : Outcome)
-        → IsPass E.expands files command a → IsPass E.expands files command b → a ≡ b }
+        → IsPass files command a → IsPass files command b → a ≡ b }
 {
+    one_expansion();
     one_condition();
     one_cut();
 }
 
 /// The pass of a command has the same outcome over any other files that agree with these on its probes, in absence or
 /// in skeleton: what stands at other paths, and on which lines, does not matter.
-pub fn same_pass<E: Expander>()
-    ensures { (files other : Files) (command : Told) (end : Outcome) → IsPass E.expands files command end
-        → Agree files other end.probes → IsPass E.expands other command end }
+pub fn same_pass()
+    ensures { (files other : Files) (command : Told) (end : Outcome) → IsPass files command end
+        → Agree files other end.probes → IsPass other command end }
 {}

@@ -2,7 +2,6 @@
 #![tactic(auto)]
 
 mod answer;
-mod expander;
 mod file_map;
 mod files;
 mod header;
@@ -13,9 +12,10 @@ mod meter;
 mod node_set;
 mod note;
 mod note_list;
+mod passed;
 mod section;
+mod walking;
 
-pub use expander::{ExpandFault, Expander, Mode};
 pub use file_map::FileMap;
 pub use files::Files;
 pub use laws::{one_pass, same_pass};
@@ -23,4 +23,6 @@ pub use limits::{DEPTH_LIMIT, NODE_LIMIT};
 pub use meter::Meter;
 pub use node_set::NodeSet;
 pub use note::{Note, NoteKind};
+pub use passed::Passed;
 pub use section::Section;
+pub use walking::pass;

@@ -18,9 +18,9 @@ use std::marker::Model;
 /// The macros of a pass, the files that it does not enter again, and its notes.
 #[derive(Drop)]
 pub(crate) struct Memory {
-    macros: Macros,
-    once: Once,
-    notes: Notes,
+    pub(crate) macros: Macros,
+    pub(crate) once: Once,
+    pub(crate) notes: Notes,
 }
 
 impl Model for Memory {

@@ -1,8 +1,10 @@
 //! The if sections that are open at a place of a source.
 ghost use Rattle.std.specs.Prelude.{◌≡◌, [], OnOk};
 ghost use Rattle.cb_pass.specs.Sections.{is_live, is_before_live, may_be_taken, entered, continued, turned, closed, section_continued, section_turned};
+ghost use Rattle.cb_pass.specs.Steps.{sections_behind};
 
 use cb_paths::NoMemory;
+use cb_tree::NodeKind;
 use std::alloc::Global;
 use std::marker::Model;
 
@@ -109,6 +111,30 @@ impl Sections {
         ensures { self.new ≡ closed self.old }
     {
         let _ = self.stack.pop();
+    }
+
+    /// Goes behind a node of this kind, which has this condition.
+    pub(crate) fn pass(&mut self, kind: NodeKind, condition: bool) -> Result<(), NoMemory>
+        ensures { OnOk result (self.new ≡ sections_behind kind condition self.old) }
+    {
+        match kind {
+            NodeKind::If => self.enter(condition),
+            NodeKind::Ifdef => self.enter(condition),
+            NodeKind::Ifndef => self.enter(condition),
+            NodeKind::Elif => {
+                self.go_on(condition);
+                Ok(())
+            }
+            NodeKind::Else => {
+                self.turn();
+                Ok(())
+            }
+            NodeKind::Endif => {
+                self.close();
+                Ok(())
+            }
+            _ => Ok(()),
+        }
     }
 }
 

@@ -1,33 +1,7 @@
 //! Kinds of notes as a table, counts, and the laws of passes.
-ghost use Rattle.std.specs.Prelude.{◌≡◌};
-
-use cb_macro::Macros;
-use cb_pass::{ExpandFault, Expander, FileMap, Meter, Mode, Note, NoteKind, one_pass, same_pass};
-use cb_tokens::{Token, Tokens};
-use std::alloc::Global;
-use std::test::Fail;
+use cb_pass::{FileMap, Meter, Note, NoteKind, one_pass, same_pass};
 
 fn is_shared<T: Send + Sync>() {}
-
-/// What never has the memory to replace anything.
-#[derive(Drop)]
-struct Idle;
-
-impl Expander for Idle {
-    ghost expands = { λ macros mode tokens out cost. ⊥ };
-
-    fn expand(
-        &self,
-        _alloc: Global,
-        _macros: &Macros,
-        _tokens: &[Token],
-        _mode: Mode,
-    ) -> Result<Tokens, ExpandFault> {
-        Err(ExpandFault::NoMemory)
-    }
-
-    ghost one_expansion = { λ macros mode tokens out other cost price never again. absurd never };
-}
 
 /// The first kind whose number or name is another.
 fn wrong_kind() -> Option<NoteKind> {
@@ -65,8 +39,8 @@ fn joined() -> u64 {
 
 #[test]
 fn counts_begin_at_zero(rt: HostRuntime) {
-    one_pass::<Idle>();
-    same_pass::<Idle>();
+    one_pass();
+    same_pass();
     is_shared::<FileMap>();
     is_shared::<Note>();
     is_shared::<Meter>();

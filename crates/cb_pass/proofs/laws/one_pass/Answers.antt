@@ -2,5 +2,5 @@ use Rattle.cb_pass.proofs.One.{one_outcome}
 use Rattle.cb_pass.proofs.laws.one_pass.Goals as goal
 
 pub returns : goal.returns
-returns g c =
-    one_outcome g.E.Expander.expands g.met.E.Expander.one_expansion c.one_condition.ensures.answer c.one_cut.ensures.lines c.one_cut.ensures.no_cut
+returns c =
+    one_outcome c.one_expansion.ensures c.one_condition.ensures.answer c.one_cut.ensures.lines c.one_cut.ensures.no_cut

@@ -2,4 +2,4 @@ use Rattle.cb_pass.proofs.Agreeing.{same_pass}
 use Rattle.cb_pass.proofs.laws.same_pass.Goals as goal
 
 pub returns : goal.returns
-returns g c = λ files other command end pass agree. same_pass g.E.Expander.expands files other command end pass agree
+returns c = λ files other command end pass agree. same_pass files other command end pass agree
