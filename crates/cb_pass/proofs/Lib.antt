@@ -10,3 +10,13 @@ pub mod Joined
 pub mod Moves
 pub mod Unreached
 pub mod Leaping
+pub mod Visiting
+pub mod Meeting
+pub mod Begun
+pub mod Nodes
+pub mod Passing
+pub mod Ending
+pub mod Trailing
+pub mod Acting
+pub mod Stepping
+pub mod Beginning

@@ -1,6 +1,6 @@
 -- Sets of nodes by the places of the paths of their files.
 use Rattle.std.proofs.Common.{◌≡◌, ℕ, ◌+◌, ◌<◌, ◌≤◌, Bool, true, false, List, [], ◌∷◌, ◌++◌, length, get_or, refl, sym, ap, ◌∙◌, arith, inl, inr, subst}
-use Rattle.std.specs.Prelude.{◌||◌, ◌&&◌, ◌==◌, ◌⊎◌, cond, not, Some, None, nat_lt}
+use Rattle.std.specs.Prelude.{◌||◌, ◌&&◌, ◌==◌, ◌⊎◌, cond, not, Option, Some, None, nat_lt, MatchOption}
 use Prim.Native.Nat.{zero, suc}
 use Rattle.std.proofs.Math.ListN.{set}
 use Rattle.std.proofs.Common.{get_or-set_other, get_or-set_same}
@@ -188,3 +188,9 @@ lost_absent p paths e = is_absent p paths (lost_place p paths e)
 pub own_row : (paths sets : List (List ℕ)) (i n : ℕ) (row : List ℕ) → IsDistinct bytes_eq paths → i < length paths → row ≡ get_or sets i []
     → has_bit row n ≡ is_in paths sets (get_or paths i []) n
 own_row paths sets i n row d lt r = ap (λ s. has_bit s n) (r ∙ ap (λ k. get_or sets k []) (sym (own_place paths i d lt)))
+
+-- what the place of a path says, and the lack of one
+pub placed : (p : List ℕ) (paths : List (List ℕ)) (r : Option ℕ) → r ≡ position (bytes_eq p) paths
+    → MatchOption r (has_path paths p ≡ false) (λ i. (place p paths ≡ i) × (i < length paths))
+placed p paths None e = lost_absent p paths (sym e)
+placed p paths (Some i) e = found_place p paths i (sym e)

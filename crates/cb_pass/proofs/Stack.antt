@@ -8,7 +8,7 @@ use Rattle.std.proofs.lemmas.List.{take_all, reverse-append}
 use Rattle.cb_pass.specs.declared.section.Section.{Section}
 use Rattle.cb_pass.specs.Sections.{continued, turned, section_continued, section_turned}
 
-reversed : {X : Type 0} (xs ys : List X) (y : X) → xs ≡ ys ++ (y ∷ []) → reverse xs ≡ y ∷ reverse ys
+pub reversed : {X : Type 0} (xs ys : List X) (y : X) → xs ≡ ys ++ (y ∷ []) → reverse xs ≡ y ∷ reverse ys
 reversed xs ys y e = ap reverse e ∙ reverse-append ys (y ∷ [])
 
 reverse-last : {X : Type 0} (xs : List X) (last : ℕ) (d : X) → suc last ≡ length xs → reverse xs ≡ get_or xs last d ∷ reverse (take last xs)

@@ -3,3 +3,4 @@ pub mod Said
 pub mod Memos
 pub mod Trails
 pub mod Moves
+pub mod Readings

@@ -2,6 +2,9 @@
 #![tactic(auto)]
 
 mod answer;
+mod definition;
+mod effect;
+mod entering;
 mod file_map;
 mod files;
 mod header;
@@ -12,8 +15,14 @@ mod meter;
 mod node_set;
 mod note;
 mod note_list;
+mod open_file;
+mod open_files;
 mod passed;
+mod reading;
 mod section;
+mod starting;
+mod trail;
+mod visit;
 mod walking;
 
 pub use file_map::FileMap;

@@ -1,17 +1,19 @@
 //! What a pass knows apart from where it stands.
-ghost use Rattle.std.specs.Prelude.{◌≡◌, Bool, OnOk, []};
+ghost use Rattle.std.specs.Prelude.{◌≡◌, Bool, IfOk, OnOk, []};
 ghost use Rattle.cb_include.specs.Seen.{has_path, with_path};
 ghost use Rattle.cb_macro.specs.Maps.{found, IsChange};
 ghost use Rattle.cb_pass.specs.Answers.{Defines};
+ghost use Rattle.cb_pass.specs.Passes.{first_macros};
 ghost use Rattle.cb_pass.specs.States.{State};
 ghost use Rattle.cb_pass.specs.Steps.{with_note, answered};
 ghost use Rattle.cb_pass.specs.inner.Memos.{with_memo};
 
 use crate::note::NoteKind;
 use crate::note_list::Notes;
+use crate::starting::first_macros;
 use cb_include::Once;
 use cb_macro::{Defined, Macros};
-use cb_paths::{NoMemory, Path};
+use cb_paths::{Language, NoMemory, Path};
 use std::alloc::Global;
 use std::marker::Model;
 
@@ -32,6 +34,17 @@ impl Model for Memory {
 }
 
 impl Memory {
+    /// The macros at the start of a source in a language, no file and no note.
+    pub(crate) fn new(alloc: Global, language: Language) -> Result<Memory, NoMemory>
+        ensures { IfOk result (λ m. m ≡ record { macros = first_macros language; once = []; notes = [] }) }
+    {
+        Ok(Memory {
+            macros: first_macros(alloc, language)?,
+            once: Once::new(alloc),
+            notes: Notes::new(alloc),
+        })
+    }
+
     /// Leaves a note, unless it is there.
     pub(crate) fn note(
         &mut self,
