@@ -1,11 +1,11 @@
 pub mod AnswerParts
+pub mod Asking
 pub mod CommandWords
-pub mod NamesHeld
-pub mod NotYetSteps
-pub mod Numbers
+pub mod Definitions
 pub mod NumberSteps
 pub mod NumberTexts
 pub mod OneSaying
-pub mod PassSteps
-pub mod Stack
+pub mod PathPlaces
+pub mod ReachedLines
+pub mod SourcePath
 pub mod Statuses

@@ -1,9 +1,5 @@
-pub mod NameSet
-pub mod Sections
-pub mod Defined
-pub mod Pass
-pub mod NotYet
 pub mod Words
+pub mod Specialise
 pub mod Texts
 pub mod Run
 pub mod inner

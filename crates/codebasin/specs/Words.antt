@@ -1,42 +1,56 @@
--- The words of the command line.
-use Rattle.std.specs.Prelude.{ℕ, ◌==◌, ◌&&◌, if◌then◌else◌, List, [], ◌∷◌, codes, Option, Some, None, option_map}
+-- The arguments of the program.
+use Rattle.std.specs.Prelude.{◌≡◌, ℕ, ◌==◌, ◌&&◌, if◌then◌else◌, List, [], ◌∷◌, All, codes, Option, Some, None, option_map}
 use Rattle.std.specs.Str.{bytes_eq}
-use Rattle.cb_tokens.specs.Forms.{is_identifier}
-use Rattle.codebasin.specs.Pass.{may_be_macro}
+use Rattle.cb_macro.specs.Definitions.{Definition}
+use Rattle.cb_macro.specs.Words.{WordDefines}
 
--- a name that may be defined: one identifier other than `defined` and `__VA_ARGS__` (6.10.8 paragraph 4, 6.10.3 paragraph 5)
-abbrev pub definable : List ℕ → Option (List ℕ)
-definable name = if is_identifier name && may_be_macro name then Some name else None
+-- what stands behind -D in an argument that begins with it (own)
+abbrev pub joined_word : List ℕ → Option (List ℕ)
+joined_word [] = None
+joined_word (a ∷ []) = None
+joined_word (a ∷ b ∷ word) = if (a == 45) && (b == 68) then Some word else None
 
--- the name in a word that begins with -D (own)
-abbrev pub joined_name : List ℕ → Option (List ℕ)
-joined_name [] = None
-joined_name (a ∷ []) = None
-joined_name (a ∷ b ∷ name) = if (a == 45) && (b == 68) then definable name else None
-
--- a name before others, where all of them are there (own)
+-- a word before others, where all of them are there (own)
 abbrev pub before : Option (List ℕ) → Option (List (List ℕ)) → Option (List (List ℕ))
-before None names = None
-before (Some name) None = None
-before (Some name) (Some names) = Some (name ∷ names)
+before None words = None
+before (Some word) None = None
+before (Some word) (Some words) = Some (word ∷ words)
 
--- the names of the words -D NAME, in one word or in two, or nothing where a word is no part of such (own)
-abbrev pub names_in : List (List ℕ) → Option (List (List ℕ))
-names_in [] = Some []
-names_in (word ∷ []) = before (joined_name word) (Some [])
-names_in (word ∷ next ∷ words) =
-    if bytes_eq word (codes "-D") then before (definable next) (names_in words)
-    else before (joined_name word) (names_in (next ∷ words))
+-- the words of -D, each in an argument with it or in the next one, or nothing where an argument is no part of such; the word of
+-- a last -D alone is empty (own)
+abbrev pub words_in : List (List ℕ) → Option (List (List ℕ))
+words_in [] = Some []
+words_in (first ∷ []) = before (joined_word first) (Some [])
+words_in (first ∷ next ∷ more) =
+    if bytes_eq first (codes "-D") then before (Some next) (words_in more)
+    else before (joined_word first) (words_in (next ∷ more))
 
--- the names of the words behind the command `specialise`, or nothing where the words are not such (own)
-abbrev pub names_asked : List (List ℕ) → Option (List (List ℕ))
-names_asked [] = None
-names_asked (word ∷ words) = if bytes_eq word (codes "specialise") then names_in words else None
+-- the words of -D behind the command `specialise`, or nothing where the arguments are not such (own)
+abbrev pub words_asked : List (List ℕ) → Option (List (List ℕ))
+words_asked [] = None
+words_asked (first ∷ more) = if bytes_eq first (codes "specialise") then words_in more else None
 
--- what a run is asked for: which lines a source with these names defined reaches (own)
+-- what a run is asked for: which lines of a source are reached, with the definitions of these words (own)
 pub data Job : Type 0 where
   Specialise : List (List ℕ) → Job
 
--- what the words ask for, or nothing where they are no command (own)
+-- what the arguments ask for, if they have the form of a command (own)
 abbrev pub job_of : List (List ℕ) → Option Job
-job_of words = option_map Specialise (names_asked words)
+job_of arguments = option_map Specialise (words_asked arguments)
+
+-- the word defines a macro (GCC's manual, "Options Controlling the Preprocessor", -D)
+abbrev pub IsDefinition : List ℕ → Type 0
+IsDefinition word = (d : List ℕ × Definition) × WordDefines word (Some d)
+
+-- each word of -D is a definition (own)
+abbrev pub IsSound : Job → Type 0
+IsSound (Specialise words) = All IsDefinition words
+
+-- the arguments are a command, which asks for this (own)
+pub record Asks (arguments : List (List ℕ)) (job : Job) : Type 0 where
+  pub is : job_of arguments ≡ Some job
+  pub sound : IsSound job
+
+-- the arguments are no command (own)
+abbrev pub AsksNothing : List (List ℕ) → Type 0
+AsksNothing arguments = (job : Job) → Asks arguments job → ⊥

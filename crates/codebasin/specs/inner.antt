@@ -1,5 +1,5 @@
 -- What private clauses alone cite.
 pub mod Answers
 pub mod NumberLines
-pub mod Passing
+pub mod OneFile
 pub mod Said

@@ -1,11 +1,15 @@
 //! From a source to what is said of it.
 ghost use Rattle.std.specs.Prelude.{◌≡◌, IfOk};
-ghost use Rattle.codebasin.specs.inner.Answers.{Answers, SaysOfNodes};
+ghost use Rattle.codebasin.specs.Specialise.{command_of};
+ghost use Rattle.codebasin.specs.inner.Answers.{Answers, Passes};
 ghost use Rattle.codebasin.specs.inner.Said.{said_bytes};
 
-use crate::reached::{Passed, pass_over};
-use crate::starting::start_names;
-use crate::texts::{TOO_LONG, fault_text, not_yet_text, numbers_text};
+use crate::compiled::command_of;
+use crate::one_file::OneFile;
+use crate::reached::reached_text;
+use crate::texts::{TOO_LONG, malformed_text};
+use cb_include::Command;
+use cb_pass::{Meter, pass};
 use cb_paths::{Bytes, NoMemory, SOURCE_BYTE_LIMIT};
 use cb_tree::{BuildFault, Tree, build};
 use std::alloc::Global;
@@ -66,49 +70,40 @@ impl Answer {
     }
 }
 
-/// What a pass goes over, and the names that are defined before it.
-#[derive(Drop)]
-struct Subject {
-    names: Vec<Bytes>,
-    tree: Tree,
-}
-
-/// What is said of a sound source.
-fn answer_tree(alloc: Global, subject: &Subject) -> Result<Answer, NoMemory>
-    ensures { IfOk result (λ answer. SaysOfNodes subject.now.names.items subject.now.tree answer.status (said_bytes answer.text)) }
+/// The numbers of the lines that the pass of a command reaches in its source.
+fn text_of(alloc: Global, tree: &Tree, command: &Command) -> Result<Vec<u8>, NoMemory>
+    ensures { IfOk result (λ text. Passes command.now tree.now text.items) }
 {
-    let names = start_names(alloc, subject.names.as_slice())?;
-    let passed = pass_over(alloc, &subject.tree, names)?;
-    match passed {
-        Passed::UpTo(line) => {
-            let text = not_yet_text(alloc, line)?;
-            Ok(Answer::made(2, text))
-        }
-        Passed::All(lines) => {
-            let text = numbers_text(alloc, &lines)?;
-            Ok(Answer::made(0, text))
-        }
-    }
+    let files = OneFile { tree };
+    let mut meter = Meter::new();
+    let passed = pass(alloc, &files, command, &mut meter)?;
+    reached_text(alloc, tree, &passed, &command.main)
 }
 
-/// What is said of a source, where these names are defined before it.
+/// What is said of a sound source, with these words of `-D`.
+fn answer_tree(alloc: Global, words: Vec<Bytes>, tree: &Tree) -> Result<Answer, NoMemory>
+    ensures { IfOk result (λ answer. (answer.status ≡ 0) × Passes (command_of words.items) tree.now (said_bytes answer.text)) }
+{
+    let command = command_of(alloc, words)?;
+    let text = text_of(alloc, tree, &command)?;
+    Ok(Answer::made(0, text))
+}
+
+/// What is said of a source, with these words of `-D`.
 pub(crate) fn answer_source(
     alloc: Global,
-    names: Vec<Bytes>,
+    words: Vec<Bytes>,
     source: &[u8],
 ) -> Result<Answer, NoMemory>
-    ensures { IfOk result (λ answer. Answers names.items source.now answer.status (said_bytes answer.text)) }
+    ensures { IfOk result (λ answer. Answers words.items source.now answer.status (said_bytes answer.text)) }
 {
     if source.len() > SOURCE_BYTE_LIMIT {
         return Ok(Answer::fixed(3, TOO_LONG));
     }
     match build(alloc, source) {
-        Ok(tree) => {
-            let subject = Subject { names, tree };
-            answer_tree(alloc, &subject)
-        }
+        Ok(tree) => answer_tree(alloc, words, &tree),
         Err(BuildFault::Bad(fault)) => {
-            let text = fault_text(alloc, fault)?;
+            let text = malformed_text(alloc, fault)?;
             Ok(Answer::made(2, text))
         }
         Err(BuildFault::NoMemory) => Err(NoMemory),

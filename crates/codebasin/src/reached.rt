@@ -1,83 +1,61 @@
-//! A pass over a tree, and the counted lines that it reaches.
-ghost use Rattle.std.specs.Prelude.{◌≡◌, [], true, Bool, OnOk, IfOk, if◌then◌else◌};
-ghost use Rattle.codebasin.specs.Pass.{Holds, is_asked, with_numbers, is_reached, state_behind};
-ghost use Rattle.codebasin.specs.inner.Passing.{HasPassed};
+//! The counted lines that a pass reaches.
+ghost use Rattle.std.specs.Prelude.{◌≡◌, ◌++◌, ℕ, [], OnOk, IfOk, IfSome, if◌then◌else◌};
+ghost use Rattle.cb_pass.specs.Ends.{end_of};
+ghost use Rattle.cb_pass.specs.Reached.{has_bit};
+ghost use Rattle.codebasin.specs.Specialise.{reached_lines};
+ghost use Rattle.codebasin.specs.Texts.{numbers_text};
 
-use crate::early::is_ready;
-use crate::names::Names;
-use crate::pass::Pass;
+use crate::texts::push_numbers;
 use cb_lines::Lines;
-use cb_paths::NoMemory;
-use cb_tokens::Token;
-use cb_tree::{NodeKind, Tree};
+use cb_pass::{NodeSet, Passed};
+use cb_paths::{NoMemory, Path};
+use cb_tree::Tree;
 use std::alloc::Global;
 
-/// Adds the lines of one set to another, span by span.
-#[tactic(auto, using(crate::proofs::Numbers::with_numbers_append))]
-fn add_all(set: &mut Lines, lines: &Lines) -> Result<(), NoMemory>
-    ensures { OnOk result (set.new ≡ with_numbers lines.now set.old) }
-{
-    for span in lines.spans() {
-        set.add_span(*span)?;
-    }
-    Ok(())
-}
-
-/// Adds the lines of one set to another where a node is reached.
-fn add_where(set: &mut Lines, reached: bool, lines: &Lines) -> Result<(), NoMemory>
-    ensures { OnOk result (set.new ≡ with_numbers (if reached then lines.now else []) set.old) }
+/// Adds the numbers of a set of lines to a text, each on a line of its own, where they are reached.
+fn push_where(text: &mut Vec<u8>, reached: bool, lines: &Lines) -> Result<(), NoMemory>
+    ensures { OnOk result (text.new.items ≡ text.old.items ++ numbers_text (if reached then lines.now else [])) }
 {
     if reached {
-        return add_all(set, lines);
+        push_numbers(text, lines)?;
     }
     Ok(())
 }
 
-/// Goes past a node of the kind, whose counted lines go into the set where it is reached.
-fn visit<'a>(
-    alloc: Global,
-    pass: &mut Pass<'a>,
-    set: &mut Lines,
-    kind: NodeKind,
-    rest: &'a [Token],
-    counted: &Lines,
-) -> Result<(), NoMemory>
-    ensures state { OnOk result ((holds : Bool)
-        × (is_asked kind pass.old.sections ≡ true → Holds kind rest.now pass.old.names holds)
-        × (pass.new ≡ state_behind kind holds rest.now pass.old)) }
-    ensures lines { OnOk result (set.new ≡ with_numbers (if is_reached kind pass.old.sections then counted.now else []) set.old) }
+/// The nodes that a pass reached in the source at a path, found by one look-up for all of them.
+fn row_of<'a>(passed: &'a Passed, path: &Path) -> Option<&'a NodeSet>
+    ensures { IfSome result (λ row. (n : ℕ) → has_bit row.now n ≡ (end_of passed.now).reached path.now n) }
 {
-    add_where(set, pass.reaches(kind), counted)?;
-    pass.go_past(alloc, kind, rest)
+    let place = passed.probes().place_of(path)?;
+    Some(passed.row(place))
 }
 
-/// How far a pass went over a tree.
-#[derive(Drop)]
-pub(crate) enum Passed {
-    /// Over all nodes, with the counted lines of those that it reached.
-    All(Lines),
-    /// Up to the first node that a pass does not take up, which stands on this line.
-    UpTo(u32),
-}
-
-/// Passes over a tree, where these names are defined at its start.
-pub(crate) fn pass_over<'a>(
-    alloc: Global,
-    tree: &'a Tree,
-    names: Names<'a>,
-) -> Result<Passed, NoMemory>
-    ensures { IfOk result (HasPassed tree.now names.entry) }
+/// Whether a pass reached a node in the source at a path, whose reached nodes are known or else looked up.
+fn is_reached(passed: &Passed, path: &Path, row: Option<&NodeSet>, node: u32) -> bool
+    requires { IfSome row (λ row. (n : ℕ) → has_bit row.now n ≡ (end_of passed.now).reached path.now n) }
+    ensures { result ≡ (end_of passed.now).reached path.now node }
 {
-    let mut lines = Lines::new(alloc);
-    let mut pass = Pass::new(alloc, names);
-    for index in 0..tree.len() {
-        let kind = tree.kind(index + 1);
-        let rest = tree.rest(index + 1);
-        if !is_ready(kind, rest) {
-            return Ok(Passed::UpTo(tree.line(index + 1)));
-        }
-        let counted = tree.counted(index + 1);
-        visit(alloc, &mut pass, &mut lines, kind, rest, counted)?;
+    match row {
+        Some(row) => row.has(node),
+        None => passed.reached(path, node),
     }
-    Ok(Passed::All(lines))
+}
+
+/// The numbers of the counted lines that a pass reaches in the source at a path, each on a line of its own.
+pub(crate) fn reached_text(
+    alloc: Global,
+    tree: &Tree,
+    passed: &Passed,
+    path: &Path,
+) -> Result<Vec<u8>, NoMemory>
+    ensures { IfOk result (λ text. text.items ≡ numbers_text (reached_lines ((end_of passed.now).reached path.now) tree.now)) }
+{
+    let row = row_of(passed, path);
+    let mut text = Vec::new(alloc);
+    'nodes: for index in 0..tree.len() {
+        let node = index + 1;
+        let reached = is_reached(passed, path, row, node);
+        push_where(&mut text, reached, tree.counted(node))?;
+    }
+    Ok(text)
 }

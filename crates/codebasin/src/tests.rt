@@ -22,11 +22,11 @@ const NO_FAULTS: Faults = Faults {
     room: 4096,
 };
 
-/// The words of a command line.
-fn texts_of(alloc: Global, words: &[&str]) -> Result<Vec<String>, NoMemory> {
+/// The arguments of a command line.
+fn texts_of(alloc: Global, arguments: &[&str]) -> Result<Vec<String>, NoMemory> {
     let mut texts = Vec::new(alloc);
-    for word in words {
-        texts.push(String::from_str(alloc, *word)?)?;
+    for argument in arguments {
+        texts.push(String::from_str(alloc, *argument)?)?;
     }
     Ok(texts)
 }
@@ -39,10 +39,10 @@ fn input_of(alloc: Global, source: &[u8], faults: Faults) -> Result<MemSource, N
     Ok(MemSource::new(bytes, pieces, fails))
 }
 
-/// Whether a run with these words over an input ends with a status and a text.
+/// Whether a run with these arguments over an input ends with a status and a text.
 fn ends_with(
     rt: &HostRuntime,
-    words: &[&str],
+    arguments: &[&str],
     source: &[u8],
     faults: Faults,
     status: u8,
@@ -52,7 +52,12 @@ fn ends_with(
     let fails = Numbers::from_slice(alloc, faults.writes)?;
     let mut out = MemSink::new(alloc, faults.room, fails)?;
     let mut input = input_of(alloc, source, faults)?;
-    let got = run(rt, texts_of(alloc, words)?.as_slice(), &mut input, &mut out);
+    let got = run(
+        rt,
+        texts_of(alloc, arguments)?.as_slice(),
+        &mut input,
+        &mut out,
+    );
     Ok(got == status && out.taken() == text)
 }
 
@@ -60,41 +65,54 @@ const USAGE: &[u8] = b"usage: codebasin specialise|report|stdio|serve|generate\n
 
 const GPU: &[u8] = b"#ifdef GPU\na();\n#else\nb();\n#endif\nc();\n";
 
+const WITH_GPU: &[u8] = b"1\n2\n3\n5\n6\n";
+
+const WITHOUT_GPU: &[u8] = b"1\n3\n4\n5\n6\n";
+
+const ARGUMENTS: [(&[&str], u8, &[u8]); 24] = [
+    (&["specialise"], 0, WITHOUT_GPU),
+    (&["specialise", "-D", "GPU"], 0, WITH_GPU),
+    (&["specialise", "-DGPU"], 0, WITH_GPU),
+    (&["specialise", "-DCPU", "-D", "GPU"], 0, WITH_GPU),
+    (&["specialise", "-DCPU=GPU"], 0, WITHOUT_GPU),
+    // what a macro is defined as does not matter here
+    (&["specialise", "-DGPU=0"], 0, WITH_GPU),
+    (&["specialise", "-DGPU="], 0, WITH_GPU),
+    (&["specialise", "-DGPU(x)=x"], 0, WITH_GPU),
+    (&["specialise", "-DGPU=#"], 0, WITH_GPU),
+    // a word is cut at its first line end
+    (&["specialise", "-DGPU=1\n/*"], 0, WITH_GPU),
+    (&["specialise", "-D"], 1, USAGE),
+    (&["specialise", "-D", ""], 1, USAGE),
+    (&["specialise", "-D", "9"], 1, USAGE),
+    (&["specialise", "-DGPU=##"], 1, USAGE),
+    (&["specialise", "-DGPU(x"], 1, USAGE),
+    (&["specialise", "-DGPU=/*"], 1, USAGE),
+    (&["specialise", "-Ddefined"], 1, USAGE),
+    (&["specialise", "-D__VA_ARGS__"], 1, USAGE),
+    (&["specialise", "-DGPU", "-D9"], 1, USAGE),
+    (&["specialise", "GPU"], 1, USAGE),
+    (&["specialise", "-D", "-DGPU"], 1, USAGE),
+    (&["specialise", "-UGPU"], 1, USAGE),
+    (&["generate"], 1, USAGE),
+    (&[], 1, USAGE),
+];
+
 #[test]
-fn words_are_read(rt: HostRuntime) -> Result<(), Fail> {
-    let rows: [(&[&str], u8, &[u8]); 13] = [
-        (&["specialise"], 0, b"1\n3\n4\n5\n6\n"),
-        (&["specialise", "-D", "GPU"], 0, b"1\n2\n3\n5\n6\n"),
-        (&["specialise", "-DGPU"], 0, b"1\n2\n3\n5\n6\n"),
-        (&["specialise", "-DCPU", "-D", "GPU"], 0, b"1\n2\n3\n5\n6\n"),
-        (&["specialise", "-D"], 1, USAGE),
-        (&["specialise", "-D", "9"], 1, USAGE),
-        (&["specialise", "-DX=1"], 1, USAGE),
-        (&["specialise", "-Ddefined"], 1, USAGE),
-        (&["specialise", "-D__VA_ARGS__"], 1, USAGE),
-        (&["specialise", "GPU"], 1, USAGE),
-        (&["specialise", "-D", "-DGPU"], 1, USAGE),
-        (&["generate"], 1, USAGE),
-        (&[], 1, USAGE),
-    ];
-    for at in 0..rows.len() {
-        let (words, status, text) = rows[at];
+fn arguments_are_read(rt: HostRuntime) -> Result<(), Fail> {
+    for at in 0..ARGUMENTS.len() {
+        let (arguments, status, text) = ARGUMENTS[at];
         assert!(rt;
-            ends_with(&rt, words, GPU, NO_FAULTS, status, text)?,
+            ends_with(&rt, arguments, GPU, NO_FAULTS, status, text)?,
             "row {at}"
         );
     }
     Ok(())
 }
 
-const SPECIALISED: [(&[u8], u8, &[u8]); 22] = [
+/// Sources, with no macro of the caller's.
+const SPECIALISED: [(&[u8], u8, &[u8]); 20] = [
     (b"", 0, b""),
-    (b"x;\n#define A 1\n", 2, b"error input: not yet line 2\n"),
-    (
-        b"#define A\n#include \"a\"\n",
-        2,
-        b"error input: not yet line 2\n",
-    ),
     (
         b"#ifndef A\n#define A\na;\n#endif\n#ifdef A\nb;\n#endif\n",
         0,
@@ -147,11 +165,6 @@ const SPECIALISED: [(&[u8], u8, &[u8]); 22] = [
         2,
         b"error input: bad source 3 StrayElse line 3\n",
     ),
-    (
-        b"#if 1\n#else\n#elif 1\n#endif\n",
-        2,
-        b"error input: bad source 5 AfterElse line 3\n",
-    ),
     // CR LF, splices and the digraph of #
     (
         b"%:ifndef A\r\na;\\\r\nb;\r\n%:endif\r\n",
@@ -159,19 +172,17 @@ const SPECIALISED: [(&[u8], u8, &[u8]); 22] = [
         b"1\n2\n3\n4\n",
     ),
     (b"#if\\\ndef A\nx;\n#endif\ny;\n", 0, b"1\n2\n4\n5\n"),
-    (b"#ifdef __STDC_VERSION__\nx;\n#endif\n", 0, b"1\n2\n3\n"),
     (
         b"#undef __STDC__\n#ifdef __STDC__\nx;\n#endif\n",
         0,
         b"1\n2\n4\n",
     ),
-    (
-        b"#define A\n#define B\n#undef A B\n#ifdef A\nx;\n#elif defined B\ny;\n#endif\n",
-        0,
-        b"1\n2\n3\n4\n6\n7\n8\n",
-    ),
     // a malformed condition in a skipped group is not looked at
     (b"#ifdef A\n#if (\n#endif\n#endif\n", 0, b"1\n4\n"),
+    // a header that is absent, and one that is the source itself, once and up to the depth at which it is not entered
+    (b"#include \"no.h\"\nx;\n", 0, b"1\n2\n"),
+    (b"#pragma once\n#include \"input.c\"\nx;\n", 0, b"1\n2\n3\n"),
+    (b"#include \"input.c\"\nx;\n", 0, b"1\n2\n"),
 ];
 
 #[test]
@@ -186,61 +197,86 @@ fn sources_are_specialised(rt: HostRuntime) -> Result<(), Fail> {
     Ok(())
 }
 
-const CONDITIONS: [(&[u8], u8, &[u8]); 11] = [
+/// Sources where `N` is 2: lines with an `a` are reached, and those with a `b` are not.
+const CONDITIONS: [(&[u8], &[u8]); 24] = [
+    (b"#if N*N == 4\na;\n#endif\n", b"1\n2\n3\n"),
+    (b"#if N == 2 && !defined M\na;\n#endif\n", b"1\n2\n3\n"),
+    (b"#if __STDC__ == 1\na;\n#endif\n", b"1\n2\n3\n"),
+    (
+        b"#if __STDC_VERSION__ == 201112L\na;\n#endif\n",
+        b"1\n2\n3\n",
+    ),
+    (
+        b"#define SQUARE(x) ((x) * (x))\n#if SQUARE(3) == 9\na;\n#endif\n",
+        b"1\n2\n3\n4\n",
+    ),
+    (
+        b"#define f(a) a*g\n#define g(a) f(a)\n#if f(2)(9)\nb;\n#endif\n",
+        b"1\n2\n3\n5\n",
+    ),
+    (
+        b"#define HAS defined N\n#if HAS\na;\n#endif\n",
+        b"1\n2\n3\n4\n",
+    ),
+    // a definition that differs takes effect
+    (b"#define N 3\n#if N == 3\na;\n#endif\n", b"1\n2\n3\n4\n"),
+    (
+        b"#undef N\n#if N\nb;\n#else\na;\n#endif\n",
+        b"1\n2\n4\n5\n6\n",
+    ),
+    (
+        b"#define JOIN(a, b) a##b\n#if JOIN(1, N) == 12\nb;\n#endif\n",
+        b"1\n2\n4\n",
+    ),
+    (
+        b"#define JOIN(a, b) a##b\n#define BOTH(a, b) JOIN(a, b)\n#if BOTH(1, N) == 12\na;\n#endif\n",
+        b"1\n2\n3\n4\n5\n",
+    ),
+    (
+        b"#define FIRST(x, ...) x\n#if FIRST(1, 0, 0)\na;\n#endif\n",
+        b"1\n2\n3\n4\n",
+    ),
+    // the source includes itself, by its name and by a macro
+    (
+        b"#ifdef A\na;\n#endif\n#ifndef A\n#define A\n#include \"input.c\"\n#endif\n",
+        b"1\n2\n3\n4\n5\n6\n7\n",
+    ),
+    (
+        b"#ifdef A\na;\n#endif\n#ifndef A\n#define A\n#define H \"input.c\"\n#include H\n#endif\n",
+        b"1\n2\n3\n4\n5\n6\n7\n8\n",
+    ),
+    // a header between < and > is looked for elsewhere
+    (
+        b"#ifdef A\nb;\n#endif\n#ifndef A\n#define A\n#include <input.c>\n#endif\n",
+        b"1\n3\n4\n5\n6\n7\n",
+    ),
+    // at the start of its name there is the folder of the source, which is the root
+    (
+        b"#ifdef A\na;\n#endif\n#ifndef A\n#define A\n#include \"x/../input.c\"\n#endif\n",
+        b"1\n2\n3\n4\n5\n6\n7\n",
+    ),
     (
         b"#if 0\n#elif 1\na;\n#elif 1/0\nb;\n#endif\n",
-        0,
         b"1\n2\n3\n4\n6\n",
     ),
-    (b"#if 1/0\na;\n#else\nb;\n#endif\n", 0, b"1\n3\n4\n5\n"),
-    (b"#if (1\na;\n#endif\n", 0, b"1\n3\n"),
-    (b"#if defined GPU\na;\n#endif\n", 0, b"1\n2\n3\n"),
+    (b"#if 1/0\nb;\n#else\na;\n#endif\n", b"1\n3\n4\n5\n"),
+    (b"#if (1\nb;\n#endif\n", b"1\n3\n"),
+    (b"#if defined\nb;\n#endif\n", b"1\n3\n"),
+    (b"#if M\nb;\n#endif\n", b"1\n3\n"),
+    (b"#if !defined ( M ) && -1 > 0u\na;\n#endif\n", b"1\n2\n3\n"),
+    (b"#if defined(N)+defined M==1\na;\n#endif\n", b"1\n2\n3\n"),
     (
-        b"#if !defined ( CPU ) && -1 > 0u\na;\n#endif\n",
-        0,
-        b"1\n2\n3\n",
-    ),
-    (
-        b"#if defined(GPU)+defined CPU==1\na;\n#endif\n",
-        0,
-        b"1\n2\n3\n",
-    ),
-    (
-        b"#define A\n#ifdef A\n#if defined A\na;\n#elif defined B\nb;\n#endif\n#endif\n",
-        0,
-        b"1\n2\n3\n4\n5\n7\n8\n",
-    ),
-    (b"x;\n#if A\n#endif\n", 2, b"error input: not yet line 2\n"),
-    (
-        b"#if 0\n#elif B\n#endif\n",
-        2,
-        b"error input: not yet line 2\n",
-    ),
-    (
-        b"#if defined\n#endif\n",
-        2,
-        b"error input: not yet line 1\n",
-    ),
-    (
-        b"#if defined(GPU\n#endif\n",
-        2,
-        b"error input: not yet line 1\n",
+        b"#if N == 1\nb;\n#elif N == 2\na;\n#else\nb;\n#endif\n",
+        b"1\n3\n4\n5\n7\n",
     ),
 ];
 
 #[test]
 fn conditions_choose(rt: HostRuntime) -> Result<(), Fail> {
     for at in 0..CONDITIONS.len() {
-        let (source, status, text) = CONDITIONS[at];
+        let (source, text) = CONDITIONS[at];
         assert!(rt;
-            ends_with(
-                &rt,
-                &["specialise", "-DGPU"],
-                source,
-                NO_FAULTS,
-                status,
-                text
-            )?,
+            ends_with(&rt, &["specialise", "-DN=2"], source, NO_FAULTS, 0, text)?,
             "row {at}"
         );
     }

@@ -1,109 +1,105 @@
-//! The words of the command line.
-ghost use Rattle.std.specs.Prelude.{◌≡◌, ◌<◌, length, map, string_bytes, IfOk, IfNone, IfSome, Some, None};
-ghost use Rattle.std.specs.List.{list_all};
+//! The arguments of the program.
+ghost use Rattle.std.specs.Prelude.{◌≡◌, ◌<◌, ◌↔◌, length, map, string_bytes, All, IsTrue, IfOk, IfNone, IfSome, MatchOption, Some, None};
 ghost use Rattle.std.specs.Option.{option_copied, option_map};
-ghost use Rattle.cb_tokens.specs.Forms.{is_identifier, is_name_start, is_name_byte};
-ghost use Rattle.codebasin.specs.Words.{definable, joined_name, before, names_in, names_asked};
+ghost use Rattle.codebasin.specs.Words.{joined_word, before, words_in, words_asked, Specialise, IsDefinition, Asks, AsksNothing};
 
-use crate::pass::may_be_macro;
+use cb_macro::{DefineFault, define_word};
 use cb_paths::{Bytes, NoMemory};
+use cb_tokens::one_cut;
 use std::alloc::Global;
 
-/// The bytes themselves where they are a name that may be defined.
-fn definable(name: &[u8]) -> Option<&[u8]>
-    ensures { option_copied result ≡ definable name.now }
+/// What stands behind `-D` in an argument that begins with it.
+fn joined_word(argument: &[u8]) -> Option<&[u8]>
+    ensures { option_copied result ≡ joined_word argument.now }
 {
-    if is_identifier(name) && may_be_macro(name) {
-        Some(name)
-    } else {
-        None
-    }
-}
-
-/// The name in a word that begins with `-D`.
-fn joined_name(word: &[u8]) -> Option<&[u8]>
-    ensures { option_copied result ≡ joined_name word.now }
-{
-    match word {
-        [b'-', b'D', ..] => definable(&word[2..]),
+    match argument {
+        [b'-', b'D', ..] => Some(&argument[2..]),
         _ => None,
     }
 }
 
-/// The name at the front of the words, in one word or in two, and the words behind it.
-fn first_name<'a>(words: &'a [String]) -> Option<(&'a [u8], &'a [String])>
-    requires { 0 < length words.now }
-    ensures none { IfNone result (names_in (map string_bytes words.now) ≡ None) }
-    ensures name { IfSome result (λ found. names_in (map string_bytes words.now)
-        ≡ before (Some found.0.now) (names_in (map string_bytes found.1.now))) }
-    ensures fewer { IfSome result (λ found. length found.1.now < length words.now) }
+/// The word of the `-D` at the front of the arguments, in one of them or in two, and the arguments behind it.
+fn first_word<'a>(arguments: &'a [String]) -> Option<(&'a [u8], &'a [String])>
+    requires { 0 < length arguments.now }
+    ensures none { IfNone result (words_in (map string_bytes arguments.now) ≡ None) }
+    ensures word { IfSome result (λ found. words_in (map string_bytes arguments.now)
+        ≡ before (Some found.0.now) (words_in (map string_bytes found.1.now))) }
+    ensures fewer { IfSome result (λ found. length found.1.now < length arguments.now) }
 {
-    let word = words[0].as_bytes();
-    if word == b"-D".as_slice() && 1 < words.len() {
-        Some((definable(words[1].as_bytes())?, &words[2..]))
+    let first = arguments[0].as_bytes();
+    if first == b"-D".as_slice() && 1 < arguments.len() {
+        Some((arguments[1].as_bytes(), &arguments[2..]))
     } else {
-        Some((joined_name(word)?, &words[1..]))
+        Some((joined_word(first)?, &arguments[1..]))
     }
 }
 
-/// The names of the words `-D NAME`, in one word or in two, or nothing where a word is no part of such.
+/// The words of each `-D`, in one argument or in two, or nothing where an argument is no part of such.
 #[tactic(auto, using(crate::proofs::CommandWords::found_push))]
-fn names_in(alloc: Global, words: &[String]) -> Result<Option<Vec<Bytes>>, NoMemory>
-    ensures { IfOk result (λ names. option_map (λ found. found.items) names ≡ names_in (map string_bytes words.now)) }
+fn words_in(alloc: Global, arguments: &[String]) -> Result<Option<Vec<Bytes>>, NoMemory>
+    ensures { IfOk result (λ words. option_map (λ found. found.items) words ≡ words_in (map string_bytes arguments.now)) }
 {
-    let mut names = Vec::new(alloc);
-    let mut rest = words;
-    'names: while !rest.is_empty() {
-        let Some((name, behind)) = first_name(rest) else {
+    let mut words = Vec::new(alloc);
+    let mut rest = arguments;
+    'words: while !rest.is_empty() {
+        let Some((word, behind)) = first_word(rest) else {
             return Ok(None);
         };
-        names.push(Bytes::from_slice(alloc, name)?)?;
+        words.push(Bytes::from_slice(alloc, word)?)?;
         rest = behind;
     }
-    Ok(Some(names))
+    Ok(Some(words))
 }
 
-/// The names of the words behind the command `specialise`, or nothing where the words are not such.
-pub(crate) fn names_asked(alloc: Global, words: &[String]) -> Result<Option<Vec<Bytes>>, NoMemory>
-    ensures { IfOk result (λ names. option_map (λ found. found.items) names ≡ names_asked (map string_bytes words.now)) }
+/// The words of each `-D` behind the command `specialise`, or nothing where the arguments are not such.
+fn words_asked(alloc: Global, arguments: &[String]) -> Result<Option<Vec<Bytes>>, NoMemory>
+    ensures { IfOk result (λ words. option_map (λ found. found.items) words ≡ words_asked (map string_bytes arguments.now)) }
 {
-    let Some((first, rest)) = words.split_first() else {
+    let Some((first, rest)) = arguments.split_first() else {
         return Ok(None);
     };
     if first.as_bytes() == b"specialise".as_slice() {
-        names_in(alloc, rest)
+        words_in(alloc, rest)
     } else {
         Ok(None)
     }
 }
 
-/// Whether a byte begins an identifier.
-#[tactic(auto, unfolding(cb_tokens::specs::Forms::is_name_start))]
-fn is_name_start(byte: u8) -> bool
-    ensures { result ≡ is_name_start byte }
+/// Whether the word of a `-D` is a definition.
+fn is_definition(alloc: Global, word: &[u8]) -> Result<bool, NoMemory>
+    ensures { IfOk result (λ is. IsTrue is ↔ IsDefinition word.now) }
 {
-    byte.is_ascii_alphabetic() || byte == b'_' || byte == b'$' || byte >= 128
+    one_cut();
+    match define_word(alloc, word) {
+        Ok(_defined) => Ok(true),
+        Err(DefineFault::Bad) => Ok(false),
+        Err(DefineFault::NoMemory) => Err(NoMemory),
+    }
 }
 
-/// Whether an identifier goes on over a byte.
-#[tactic(auto, unfolding(cb_tokens::specs::Forms::is_name_byte))]
-fn is_name_byte(byte: u8) -> bool
-    ensures { result ≡ is_name_byte byte }
+/// Whether each of these words is a definition.
+fn are_definitions(alloc: Global, words: &[Bytes]) -> Result<bool, NoMemory>
+    ensures { IfOk result (λ are. IsTrue are ↔ All IsDefinition words.now) }
 {
-    is_name_start(byte) || byte.is_ascii_digit()
+    'words: for word in words {
+        if !is_definition(alloc, word.as_slice())? {
+            return Ok(false);
+        }
+    }
+    Ok(true)
 }
 
-/// Whether an identifier goes on over all of the bytes.
-fn are_name_bytes(bytes: &[u8]) -> bool
-    ensures { result ≡ list_all is_name_byte bytes.now }
+/// The words of each `-D` of a run of `specialise`, or nothing where the arguments are no command.
+pub(crate) fn asked(alloc: Global, arguments: &[String]) -> Result<Option<Vec<Bytes>>, NoMemory>
+    ensures { IfOk result (λ words. MatchOption words (AsksNothing (map string_bytes arguments.now))
+        (λ found. Asks (map string_bytes arguments.now) (Specialise found.items))) }
 {
-    bytes.iter().all(|byte| is_name_byte(*byte))
-}
-
-/// Whether the bytes are one identifier.
-#[tactic(auto, unfolding(cb_tokens::specs::Forms::is_identifier))]
-fn is_identifier(bytes: &[u8]) -> bool
-    ensures { result ≡ is_identifier bytes.now }
-{
-    !bytes.is_empty() && is_name_start(bytes[0]) && are_name_bytes(&bytes[1..])
+    let Some(words) = words_asked(alloc, arguments)? else {
+        return Ok(None);
+    };
+    if are_definitions(alloc, words.as_slice())? {
+        Ok(Some(words))
+    } else {
+        Ok(None)
+    }
 }

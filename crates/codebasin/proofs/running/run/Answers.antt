@@ -1,6 +1,6 @@
-use Rattle.std.proofs.Common.{ℕ, ◌<◌, List, length, take, subst, arith, refl}
+use Rattle.std.proofs.Common.{ℕ, ◌<◌, List, length, take, subst, refl}
 use Rattle.std.specs.Io.KnownBytes.{Appends}
-use Rattle.codebasin.specs.Run.{Stream, Ends, wrote, cut_off, out_of_memory}
+use Rattle.codebasin.specs.Run.{Stream, wrote, cut_off, out_of_memory}
 use Rattle.codebasin.specs.inner.Said.{said_bytes}
 use Rattle.codebasin.proofs.Statuses.{keeps_itself}
 use Rattle.codebasin.proofs.running.run.Goals as goal
