@@ -1,5 +1,5 @@
 //! A list of fractions.
-ghost use Rattle.std.specs.Prelude.{◌≡◌, [], ◌∷◌, ◌++◌, OnOk};
+ghost use Rattle.std.specs.Prelude.{◌≡◌, [], ◌∷◌, ◌++◌, OnOk, OnErr};
 
 use crate::fraction::Fraction;
 use cb_paths::NoMemory;
@@ -41,6 +41,7 @@ impl Fractions {
     /// Adds a fraction at the end. Its one error is want of memory, after which nothing has changed.
     pub fn push(&mut self, fraction: Fraction) -> Result<(), NoMemory>
         ensures ok { OnOk result (self.new ≡ self.old ++ fraction ∷ []) }
+        ensures unchanged { OnErr result (self.new ≡ self.old) }
     {
         self.items.push(fraction)?;
         Ok(())
