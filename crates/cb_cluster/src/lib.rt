@@ -10,6 +10,7 @@ mod lists;
 mod merge;
 mod merge_list;
 mod merging;
+mod standing;
 
 pub use laws::{heights_rise, one_clustering};
 pub use link::Link;
@@ -18,3 +19,4 @@ pub use lists::{Classes, Members};
 pub use merge::Merge;
 pub use merge_list::Merges;
 pub use merging::{cut, merges};
+pub use standing::classes_after;
