@@ -73,3 +73,14 @@ pub next_names : (order : List Timed) (i : ℕ) (item : Timed) → i < length or
 next_names order i item within is =
     let len : length (map (λ (t : Timed). t.platform) order) ≡ length order = length-map order (λ (t : Timed). t.platform) in
     take_more (map (λ (t : Timed). t.platform) order) i [] (omega arith) ∙ ap (λ (x : List ℕ). take i (map (λ (t : Timed). t.platform) order) ++ x ∷ []) (sym (name_at order i item within is))
+
+-- an item among platforms with their figures has its own
+pub timed_at : (rows : List Row) (p a : List ℕ) (order : List Timed) (i : ℕ) (item : Timed) → i < length order → item ≡ get_or order i item
+    → order ≡ map (timed rows p a) (map (λ (t : Timed). t.platform) order) → item ≡ timed rows p a item.platform
+timed_at rows p a [] i item within is all = absurd (omega arith)
+timed_at rows p a (t ∷ ts) zero item within is all =
+    let own : t ≡ timed rows p a t.platform = cc in
+    is ∙ own ∙ ap (λ (u : Timed). timed rows p a u.platform) (sym is)
+timed_at rows p a (t ∷ ts) (suc i) item within is all =
+    let rest : ts ≡ map (timed rows p a) (map (λ (t : Timed). t.platform) ts) = cc in
+    timed_at rows p a ts i item (omega arith) is rest

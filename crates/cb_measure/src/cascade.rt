@@ -61,6 +61,7 @@ fn falling_on(
     application: &[u8],
 ) -> Result<Vec<Timed>, NoMemory>
     ensures order { IfOk result (λ order. map (λ (t : Timed). t.platform) order.items ≡ fold (put_platform rows.now problem.now application.now) [] platforms.now) }
+    ensures figures { IfOk result (λ order. order.items ≡ map (timed rows.now problem.now application.now) (fold (put_platform rows.now problem.now application.now) [] platforms.now)) }
     ensures few { IfOk result (λ order. length order.items ≤ length platforms.now) }
 {
     let mut order = Vec::new(alloc);
@@ -73,7 +74,7 @@ fn falling_on(
     Ok(order)
 }
 
-/// The steps of a cascade over platforms in their order.
+/// The steps of a cascade over platforms in their order, with their figures.
 fn steps_on(
     alloc: Global,
     rows: &Rows,
@@ -82,12 +83,13 @@ fn steps_on(
     application: &[u8],
 ) -> Result<Steps, NoMemory>
     requires few { length order.now ≤ 100000 }
+    requires figures { order.now ≡ map (timed rows.now problem.now application.now) (map (λ (t : Timed). t.platform) order.now) }
     ensures { IfOk result (λ steps. steps ≡ map (step_at rows.now problem.now application.now (map (λ (t : Timed). t.platform) order.now)) (range_with_len 0 (length order.now))) }
 {
     let mut steps = Steps::new(alloc);
     let mut mean = Mean::none();
     'order: for item in order {
-        let pace = rows.pace(problem, application, item.platform.as_slice());
+        let pace = rows.pace_of(problem, application, item);
         mean = mean.with(pace);
         let step = Step {
             platform: item.platform.copy(alloc)?,

@@ -2,6 +2,7 @@
 ghost use Rattle.std.specs.Prelude.{◌≡◌, ◌≤◌, length, IfOk};
 ghost use Rattle.std.specs.BTreeSet.{keys};
 ghost use Rattle.cb_measure.specs.Metrics.{figure_on, best_on, efficiency_of, portability_over, portability_of, problems_of, applications_of, platforms_of};
+ghost use Rattle.cb_measure.specs.inner.Timing.{timed as timed_on};
 
 use crate::figures::{best_at, run_at};
 use crate::mean::Mean;
@@ -9,6 +10,7 @@ use crate::names::{listed, names_at};
 use crate::numbers::number;
 use crate::pace::Pace;
 use crate::rows::Rows;
+use crate::timed::Timed;
 use cb_paths::{Bytes, NoMemory, Texts};
 use std::alloc::Global;
 use std::collections::BTreeSet;
@@ -42,6 +44,20 @@ impl Rows {
         Pace {
             best: best_at(&self.index.best, problem, platform),
             figure: run_at(&self.index.figures, problem, application, platform),
+        }
+    }
+
+    /// The figures of an application on a platform, which were found before, beside one another.
+    pub(crate) fn pace_of(&self, problem: &[u8], application: &[u8], timed: &Timed) -> Pace
+        requires { timed.now ≡ timed_on self.now problem.now application.now timed.now.platform }
+        ensures figure { result.figure ≡ figure_on self.now problem.now application.now timed.now.platform }
+        ensures best { result.best ≡ best_on self.now problem.now timed.now.platform }
+    {
+        // What bounds figures is known of rows that are read.
+        let _rows = &self.rows;
+        Pace {
+            best: timed.best,
+            figure: timed.figure,
         }
     }
 

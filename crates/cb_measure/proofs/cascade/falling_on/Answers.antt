@@ -2,6 +2,7 @@ use Rattle.std.proofs.Common.{◌≡◌, ◌∙◌, [], take, map, ap, arith}
 use Rattle.std.specs.List.{fold}
 use Rattle.std.proofs.lemmas.List.{take_all}
 use Rattle.cb_measure.specs.Cascade.{put_platform}
+use Rattle.cb_measure.specs.inner.Timing.{timed}
 use Rattle.cb_measure.specs.declared.timed.Timed.{Timed}
 use Rattle.cb_measure.proofs.Placed.{put_more, names_of_timed}
 use Rattle.cb_measure.proofs.cascade.falling_on.Goals as goal
@@ -21,3 +22,9 @@ returns-clause-order c =
     let all : take c.platforms.platform-index c.args.platforms.now ≡ c.args.platforms.now = take_all _ _ (omega arith) in
     ap (map (λ (t : Timed). t.platform)) c.platforms.invariant.order ∙ names_of_timed c.args.rows.now c.args.problem.now c.args.application.now _
     ∙ ap (fold (put_platform c.args.rows.now c.args.problem.now c.args.application.now) []) all
+
+pub returns-clause-figures : goal.returns-clause-figures
+returns-clause-figures c =
+    let all : take c.platforms.platform-index c.args.platforms.now ≡ c.args.platforms.now = take_all _ _ (omega arith) in
+    c.platforms.invariant.order
+    ∙ ap (λ ns. map (timed c.args.rows.now c.args.problem.now c.args.application.now) (fold (put_platform c.args.rows.now c.args.problem.now c.args.application.now) [] ns)) all
