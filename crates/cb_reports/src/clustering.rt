@@ -11,7 +11,7 @@ ghost use Rattle.cb_reports.specs.Words.{numbered};
 use crate::names::{add_set, platform_name};
 use crate::places::add_four_places;
 use crate::text::Text;
-use cb_cluster::{Link, Members, Merge, cut, links, merges, one_clustering};
+use cb_cluster::{Link, Members, Merge, classes_after, links, merges};
 use cb_diverge::{Fraction, grid, less};
 use cb_paths::{Bytes, NoMemory};
 use std::alloc::Global;
@@ -90,21 +90,18 @@ fn add_height(
     text.end_line()
 }
 
-/// Adds a height with its classes.
+/// Adds a height with the classes that stand after the merges up to it.
 fn add_cut(
     text: &mut Text,
     alloc: Global,
     names: &[Bytes],
-    pairs: &[Fraction],
+    merges: &[Merge],
     height: Fraction,
 ) -> Result<(), NoMemory>
-    requires names { length names.now < 2 ^ 32 }
-    requires pairs { length pairs.now ≡ length (pairs_of (length names.now)) }
-    ensures { (ms : List Merge) → AreMerges (links_of (length names.now) pairs.now) (singles (length names.now)) ms
-        → OnOk result (text.new ≡ text.old ++ cut_line names.now ms height) }
+    requires { length names.now < 2 ^ 32 }
+    ensures { OnOk result (text.new ≡ text.old ++ cut_line names.now merges.now height) }
 {
-    one_clustering();
-    let classes = cut(alloc, names.len() as u32, pairs, height)?;
+    let classes = classes_after(alloc, names.len() as u32, merges, height)?;
     add_height(text, names, height, classes.as_slice())
 }
 
@@ -113,23 +110,20 @@ fn add_cuts(
     text: &mut Text,
     alloc: Global,
     names: &[Bytes],
-    pairs: &[Fraction],
     merges: &[Merge],
 ) -> Result<(), NoMemory>
-    requires names { length names.now < 2 ^ 32 }
-    requires pairs { length pairs.now ≡ length (pairs_of (length names.now)) }
-    requires merges { AreMerges (links_of (length names.now) pairs.now) (singles (length names.now)) merges.now }
+    requires { length names.now < 2 ^ 32 }
     ensures { OnOk result (text.new ≡ text.old ++ flat_map (cut_line names.now merges.now) (heights_of merges.now)) }
 {
     if merges.is_empty() {
         return Ok(());
     }
     let mut last = merges[0].height;
-    add_cut(text, alloc, names, pairs, last)?;
+    add_cut(text, alloc, names, merges, last)?;
     for at in 1..merges.len() {
         let height = merges[at].height;
         if less(last, height) {
-            add_cut(text, alloc, names, pairs, height)?;
+            add_cut(text, alloc, names, merges, height)?;
             last = height;
         }
     }
@@ -173,5 +167,5 @@ fn add_clusters(
     add_distances(text, names, &links)?;
     let merges = merges(alloc, count, pairs)?;
     add_merges(text, names, merges.as_slice())?;
-    add_cuts(text, alloc, names, pairs, merges.as_slice())
+    add_cuts(text, alloc, names, merges.as_slice())
 }

@@ -158,6 +158,24 @@ fn add_failing(text: &mut Text, names: &[Bytes]) -> Result<(), NoMemory>
     add_listed(text, names)
 }
 
+/// The platforms on which an application fails, from its portability, which is positive only where it fails on none.
+fn failing(
+    alloc: Global,
+    rows: &Rows,
+    problem: &[u8],
+    application: &[u8],
+    portability: u64,
+) -> Result<Texts, NoMemory>
+    requires { portability ≡ portability_of rows.now problem.now application.now }
+    ensures { IfOk result (λ names. names ≡ filter (is_failing rows.now problem.now application.now) (platforms_of rows.now problem.now)) }
+{
+    if portability > 0 {
+        return Ok(Texts::new(alloc));
+    }
+    let platforms = rows.platforms(alloc, problem)?;
+    failing_on(alloc, rows, problem, application, platforms.as_slice())
+}
+
 /// Adds the portability of an application for a problem, and where it fails.
 pub(crate) fn add_portability(
     text: &mut Text,
@@ -168,10 +186,10 @@ pub(crate) fn add_portability(
 ) -> Result<(), NoMemory>
     ensures { OnOk result (text.new ≡ text.old ++ portability_line rows.now problem.now application.now) }
 {
-    let platforms = rows.platforms(alloc, problem)?;
-    let names = failing_on(alloc, rows, problem, application, platforms.as_slice())?;
+    let portability = rows.portability(problem, application);
+    let names = failing(alloc, rows, problem, application, portability)?;
     add_run_name(text, problem, application)?;
-    add_six_places(text, rows.portability(problem, application))?;
+    add_six_places(text, portability)?;
     add_failing(text, names.as_slice())?;
     text.end_line()
 }

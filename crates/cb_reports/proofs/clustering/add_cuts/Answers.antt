@@ -13,7 +13,7 @@ loop-at-init c =
     let some : 0 < length ms = grind (arith, nat_tests) in
     let x : Merge = get_or ms 0 c.index-merges-0.result in
     cuts-first (cut_line c.args.names.now ms) c.args.text.now c.add_cut.new.text ms x some (get_or_default ms 0 c.index-merges-0.result x some)
-    (c.in_ok-add_cut.ensures ms c.requires.merges)
+    c.in_ok-add_cut.ensures
 
 pub loop-at-preserved : goal.loop-at-preserved
 loop-at-preserved c =
@@ -25,7 +25,7 @@ loop-at-preserved c =
     elim c.if-less.branch [
       | then-less+in_ok-add_cut-2 w ↦ rw (w.text-is, w.last-is)
           (cuts-more g _ c.loop-at.text w.add_cut-then-less.new.text c.loop-at.last ms at x c.loop-at-test.true read c.loop-at.invariant
-          (sym c.less.ensures ∙ w.if-less.true) (w.in_ok-add_cut-2.ensures ms c.requires.merges))
+          (sym c.less.ensures ∙ w.if-less.true) w.in_ok-add_cut-2.ensures)
       | else-less w ↦ rw (w.text-is, w.last-is)
           (cuts-same g _ c.loop-at.text c.loop-at.last ms at x c.loop-at-test.true read c.loop-at.invariant (sym c.less.ensures ∙ w.if-less.false))
     ]
