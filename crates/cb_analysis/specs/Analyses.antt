@@ -47,6 +47,7 @@ unless_faulty (Some bad) contents = Err bad
 abbrev pub table_of : List ℕ → Option Members
 table_of bytes = if is_utf8 bytes then parse_document bytes else None
 
+-- what a table says, or its first fault; that there is none is the fault NotToml (own)
 abbrev pub reading_of : Option Members → Result Contents BadAnalysis
 reading_of None = Err (record { kind = NotToml; place = [] })
 reading_of (Some t) = unless_faulty (first_of (faults_of t)) (contents_of t)
@@ -73,9 +74,10 @@ pub record ArePlatforms (platforms : List Platform) : Type 0 where
 abbrev pub some_match : List Pattern → List ℕ → Bool
 some_match patterns path = list_any (λ pattern. matches pattern path) patterns
 
--- a source counts, a file is kept from being loaded
+-- a source counts (own)
 abbrev pub counts : Contents → List ℕ → Bool
 counts contents path = not (some_match contents.exclude path)
 
+-- a file is kept from being loaded (own)
 abbrev pub skips : Contents → List ℕ → Bool
 skips contents path = some_match contents.skip path

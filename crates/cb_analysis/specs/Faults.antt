@@ -1,6 +1,7 @@
 -- The faults of an analysis, as a list in their order, of which the first decides (own).
-use Rattle.std.specs.Prelude.{◌≡◌, ℕ, nat_lt, nat_le, Bool, true, false, List, [], ◌∷◌, ◌++◌, length, map, Option, Some, None, is_some, codes, decimal, option_and_then}
+use Rattle.std.specs.Prelude.{◌≡◌, ◌==◌, ℕ, nat_lt, nat_le, if◌then◌else◌, Bool, true, false, List, [], ◌∷◌, ◌++◌, length, map, Option, Some, None, is_some, codes, decimal, option_and_then}
 use Rattle.std.specs.List.{flat_map, enumerate_from}
+use Rattle.std.specs.Str.{is_utf8}
 use Rattle.toml.specs.Data.{Data, Members, get, as_str}
 use Rattle.cb_paths.specs.Names.{is_name}
 use Rattle.cb_paths.specs.Paths.{path_of}
@@ -12,7 +13,7 @@ use Rattle.cb_analysis.specs.declared.fault.BadAnalysis.{BadAnalysis}
 use Rattle.cb_analysis.specs.declared.fault.AnalysisFault.{AnalysisFault}
 use Rattle.cb_analysis.specs.declared.fault.AnalysisFault.TheVariants.{Bad, NoMemory}
 
--- the number and the name of a kind, as answers give them
+-- the number of a kind, as answers give it (own)
 abbrev pub kind_number : AnalysisKind → ℕ
 kind_number NotToml = 1
 kind_number NoPlatform = 2
@@ -23,6 +24,7 @@ kind_number BadPattern = 6
 kind_number TooMany = 7
 kind_number BadPath = 8
 
+-- the name of a kind, as answers give it (own)
 abbrev pub kind_name : AnalysisKind → List ℕ
 kind_name NotToml = codes "NotToml"
 kind_name NoPlatform = codes "NoPlatform"
@@ -32,6 +34,30 @@ kind_name WrongType = codes "WrongType"
 kind_name BadPattern = codes "BadPattern"
 kind_name TooMany = codes "TooMany"
 kind_name BadPath = codes "BadPath"
+
+-- what a kind means, as a fault prints it (own)
+abbrev pub kind_text : AnalysisKind → List ℕ
+kind_text NotToml = codes "the file is no TOML document"
+kind_text NoPlatform = codes "there is no platform"
+kind_text BadName = codes "a platform cannot have this name"
+kind_text NoCommands = codes "the platform has no commands"
+kind_text WrongType = codes "the value is of a wrong type"
+kind_text BadPattern = codes "the text is no pattern"
+kind_text TooMany = codes "there are too many of them"
+kind_text BadPath = codes "the text is no path"
+
+-- the place that a fault prints, which is not empty and is UTF-8 (own)
+abbrev pub place_shown : List ℕ → Option (List ℕ)
+place_shown place = if length place == 0 then None else (if is_utf8 place then Some place else None)
+
+-- a text behind a place, if there is one (own)
+abbrev pub text_at : Option (List ℕ) → List ℕ → List ℕ
+text_at None text = text
+text_at (Some place) text = place ++ codes ": " ++ text
+
+-- what a fault prints (own)
+abbrev pub bad_text : BadAnalysis → List ℕ
+bad_text bad = text_at (place_shown bad.place) (kind_text bad.kind)
 
 -- the first fault of a list of possible ones
 abbrev pub first_of : List (Option BadAnalysis) → Option BadAnalysis
@@ -52,10 +78,11 @@ in_platform name key = codes "platform." ++ name ++ key
 abbrev pub in_list : List ℕ → ℕ → List ℕ
 in_list place at = place ++ codes "." ++ decimal at
 
--- the text and the path at `commands`, if there is one
+-- the text at `commands`, if there is one (own)
 abbrev pub commands_text : Data → Option (List ℕ)
 commands_text d = option_and_then as_str (get (codes "commands") d)
 
+-- the path that this text is, if it is one (own)
 abbrev pub commands_path : Data → Option (List ℕ)
 commands_path d = option_and_then path_of (commands_text d)
 

@@ -20,22 +20,23 @@ fits star like left [] xs = left xs
 fits star like left (p ∷ ps) xs =
     if star p then list_any (fits star like left ps) (tails xs) else begins (like p) (fits star like left ps) xs
 
--- nothing is left, and something is
+-- nothing is left (own)
 abbrev pub is_empty : {X : Type 0} → List X → Bool
 is_empty [] = true
 is_empty (x ∷ xs) = false
 
--- in a part a `*` takes any bytes, and a `?` takes any one byte (gitignore(5), in which `*` and `?` stop at a slash)
+-- in a part a `*` takes any bytes (gitignore's manual, in which it stops at a slash)
 abbrev pub is_star : ℕ → Bool
 is_star byte = byte == 42
 
+-- a `?` takes any one byte, and any other byte takes itself (gitignore's manual)
 abbrev pub is_like : ℕ → ℕ → Bool
 is_like byte other = (byte == 63) || (byte == other)
 
--- a part of a pattern fits a whole part of a path
+-- a part of a pattern fits a whole part of a path (gitignore's manual)
 unfoldable pub part_fits : List ℕ → List ℕ → Bool
 part_fits pattern part = fits is_star is_like is_empty pattern part
 
--- the part `**` takes any number of parts (gitignore(5))
+-- the part `**` takes any number of parts (gitignore's manual)
 unfoldable pub is_any : List ℕ → Bool
 is_any part = bytes_eq part (codes "**")

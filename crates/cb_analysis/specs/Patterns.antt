@@ -5,7 +5,7 @@ use Rattle.cb_paths.specs.Paths.{is_absolute}
 use Rattle.cb_analysis.specs.Fits.{fits, tails, is_empty, is_any, part_fits}
 use Rattle.cb_analysis.specs.declared.pattern.Pattern.{Pattern}
 
--- the parts of a text, between its slashes
+-- the parts of a text, between its slashes (own)
 abbrev pub parts_of : List ℕ → List (List ℕ)
 parts_of text = slice_split (λ b. b == 47) text
 
@@ -14,7 +14,7 @@ abbrev pub unrooted : List ℕ → List ℕ
 unrooted [] = []
 unrooted (b ∷ bs) = if b == 47 then bs else b ∷ bs
 
--- a text that ends with a slash
+-- a text that ends with a slash (own)
 abbrev pub ends_with_slash : List ℕ → Bool
 ends_with_slash text = slice_index text (length text - 1) == 47
 
@@ -35,7 +35,7 @@ unfoldable pub is_pattern : List ℕ → Bool
 is_pattern text = not (list_any is_refused text) && list_all (λ part. not (is_empty part)) (parts_of (body text))
 
 -- the pattern that a text is: it is anchored where it begins with a slash or has more than one part, and means what is
--- in a folder where it ends with a slash (gitignore(5))
+-- in a folder where it ends with a slash (gitignore's manual)
 unfoldable pub pattern_of : List ℕ → Pattern
 pattern_of text = record {
   is_anchored = is_absolute text || nat_lt 1 (length (parts_of (body text)));
@@ -47,7 +47,7 @@ pattern_of text = record {
 abbrev pub may_follow : Bool → List (List ℕ) → Bool
 may_follow is_folder rest = not (is_folder && is_empty rest)
 
--- the pattern takes the parts of a run that begins at the first of these parts
+-- the pattern takes the parts of a run that begins at the first of these parts (own)
 abbrev pub matches_at : Pattern → List (List ℕ) → Bool
 matches_at pattern parts = fits is_any part_fits (may_follow pattern.is_folder) pattern.parts parts
 

@@ -1,6 +1,6 @@
 //! What is wrong with an analysis.
-ghost use Rattle.std.specs.Prelude.{◌≡◌};
-ghost use Rattle.cb_analysis.specs.Faults.{kind_number, kind_name};
+ghost use Rattle.std.specs.Prelude.{◌≡◌, option_map};
+ghost use Rattle.cb_analysis.specs.Faults.{kind_number, kind_name, kind_text, place_shown};
 
 use cb_paths::{Bytes, NoMemory};
 use std::alloc::AllocFailed;
@@ -8,31 +8,23 @@ use std::fmt;
 use thiserror::Error;
 
 /// What is wrong with an analysis.
-#[derive(Clone, Copy, Debug, PartialEq, Eq, Error)]
+#[derive(Clone, Copy, Debug, PartialEq, Eq)]
 pub enum AnalysisKind {
     /// The file is no TOML document.
-    #[error("the file is no TOML document")]
     NotToml,
     /// There is no platform.
-    #[error("there is no platform")]
     NoPlatform,
     /// The name of a platform is none that a platform may have.
-    #[error("a platform cannot have this name")]
     BadName,
     /// A platform has no `commands`.
-    #[error("the platform has no commands")]
     NoCommands,
     /// A value is of another type than its key wants.
-    #[error("the value is of a wrong type")]
     WrongType,
     /// A text is no pattern.
-    #[error("the text is no pattern")]
     BadPattern,
     /// There are too many platforms, or too many patterns in a list.
-    #[error("there are too many of them")]
     TooMany,
     /// A text is no path below the top.
-    #[error("the text is no path")]
     BadPath,
 }
 
@@ -68,7 +60,35 @@ impl AnalysisKind {
             AnalysisKind::BadPath => "BadPath",
         }
     }
+
+    /// What it means.
+    fn text(self) -> &'static str
+        ensures { result.now ≡ kind_text self }
+    {
+        match self {
+            AnalysisKind::NotToml => "the file is no TOML document",
+            AnalysisKind::NoPlatform => "there is no platform",
+            AnalysisKind::BadName => "a platform cannot have this name",
+            AnalysisKind::NoCommands => "the platform has no commands",
+            AnalysisKind::WrongType => "the value is of a wrong type",
+            AnalysisKind::BadPattern => "the text is no pattern",
+            AnalysisKind::TooMany => "there are too many of them",
+            AnalysisKind::BadPath => "the text is no path",
+        }
+    }
 }
+
+impl fmt::Display for AnalysisKind {
+    ghost use Rattle.std.specs.Prelude.{Some};
+
+    ghost output = { λ kind. Some (kind_text kind) };
+
+    fn fmt<W: fmt::Write>(&self, f: &mut fmt::Formatter<W>) -> fmt::Result {
+        f.write_str(self.text())
+    }
+}
+
+impl std::error::Error for AnalysisKind {}
 
 /// The first fault of an analysis.
 #[derive(Drop)]
@@ -80,16 +100,40 @@ pub struct BadAnalysis {
     pub place: Bytes,
 }
 
+/// A place as a fault prints it; none where it is empty or no UTF-8.
+#[tactic(auto, using(crate::proofs::Places::has_text, crate::proofs::Places::has_no_text))]
+fn place_shown(place: &[u8]) -> Option<&str>
+    ensures { option_map (λ text. text.now) result ≡ place_shown place.now }
+{
+    if place.is_empty() {
+        return None;
+    }
+    match std::str::from_utf8(place) {
+        Ok(text) => Some(text),
+        Err(_) => None,
+    }
+}
+
 impl fmt::Display for BadAnalysis {
+    ghost use Rattle.std.specs.Prelude.{Some};
+    ghost use Rattle.cb_analysis.specs.Faults.{bad_text};
+
+    ghost output = { λ bad. Some (bad_text bad) };
+
     fn fmt<W: fmt::Write>(&self, f: &mut fmt::Formatter<W>) -> fmt::Result {
-        match std::str::from_utf8(self.place.as_slice()) {
-            Ok(place) if !place.is_empty() => write!(f, "{place}: {}", self.kind),
-            _ => write!(f, "{}", self.kind),
+        match place_shown(self.place.as_slice()) {
+            Some(place) => write!(f, "{place}: {}", self.kind),
+            None => write!(f, "{}", self.kind),
         }
     }
 }
 
 impl fmt::Debug for BadAnalysis {
+    ghost use Rattle.std.specs.Prelude.{Some};
+    ghost use Rattle.cb_analysis.specs.Faults.{bad_text};
+
+    ghost debug_output = { λ bad. Some (bad_text bad) };
+
     fn fmt<W: fmt::Write>(&self, f: &mut fmt::Formatter<W>) -> fmt::Result {
         write!(f, "{self}")
     }
