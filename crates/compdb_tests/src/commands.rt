@@ -1,5 +1,5 @@
 //! Commands: what entries make.
-use cb_compdb::{Entry, Made, command, read};
+use cb_compdb::{DatabaseFault, Entry, Made, command, read};
 use cb_include::{Command, Op};
 use cb_paths::{Dir, Language, NoMemory, PathFault, Texts};
 use std::alloc::Global;
@@ -50,21 +50,49 @@ fn put_command(text: &mut Vec<u8>, command: &Command) -> Result<(), NoMemory> {
     put(text, b"root ", command.root.bytes())
 }
 
-/// What an entry makes, as lines of text.
-fn put_made(alloc: Global, text: &mut Vec<u8>, entry: &Entry, root: &Dir) -> Result<(), NoMemory> {
-    match command(alloc, entry, root)? {
-        Made::Command(command) => put_command(text, &command),
+fn put_made(text: &mut Vec<u8>, made: &Made) -> Result<(), NoMemory> {
+    match made {
+        Made::Command(command) => put_command(text, command),
         Made::Outside => put(text, b"outside", b""),
         Made::Unsupported => put(text, b"unsupported", b""),
     }
 }
 
+/// What entries make, as lines of text, one behind the other.
+fn put_all(
+    alloc: Global,
+    text: &mut Vec<u8>,
+    entries: &[Entry],
+    root: &Dir,
+) -> Result<(), NoMemory> {
+    for entry in entries {
+        put_made(text, &command(alloc, entry, root)?)?;
+    }
+    Ok(())
+}
+
+/// Whether entries make this.
+fn all_make(alloc: Global, entries: &[Entry], root: &Dir, wanted: &[u8]) -> Result<bool, NoMemory> {
+    let mut text = Vec::new(alloc);
+    put_all(alloc, &mut text, entries, root)?;
+    Ok(text.as_slice() == wanted)
+}
+
 /// The folder of a text.
-fn folder(alloc: Global, text: &[u8]) -> Result<Option<Dir>, NoMemory> {
-    let top = Dir::top(alloc)?;
-    match Dir::read(alloc, text, &top) {
-        Ok(dir) => Ok(Some(dir)),
-        Err(PathFault::Bad(_)) => Ok(None),
+fn folder(alloc: Global, text: &[u8]) -> Result<Dir, PathFault> {
+    Dir::read(alloc, text, &Dir::top(alloc)?)
+}
+
+/// Whether entries make this below a folder.
+fn make_below(
+    alloc: Global,
+    entries: &[Entry],
+    root: &[u8],
+    wanted: &[u8],
+) -> Result<bool, NoMemory> {
+    match folder(alloc, root) {
+        Ok(root) => all_make(alloc, entries, &root, wanted),
+        Err(PathFault::Bad(_)) => Ok(false),
         Err(PathFault::NoMemory) => Err(NoMemory),
     }
 }
@@ -76,32 +104,42 @@ pub(crate) fn make(
     root: &[u8],
     wanted: &[u8],
 ) -> Result<bool, NoMemory> {
-    let Ok(entries) = read(alloc, file) else {
-        return Ok(false);
-    };
-    let Some(root) = folder(alloc, root)? else {
-        return Ok(false);
-    };
-    let mut text = Vec::new(alloc);
-    for entry in entries.as_slice() {
-        put_made(alloc, &mut text, entry, &root)?;
+    match read(alloc, file) {
+        Ok(entries) => make_below(alloc, entries.as_slice(), root, wanted),
+        Err(DatabaseFault::Bad(_)) => Ok(false),
+        Err(DatabaseFault::NoMemory) => Err(NoMemory),
     }
-    Ok(text.as_slice() == wanted)
+}
+
+/// Adds a database whose one entry is `../a.c`, compiled in `b` with words as they are written in a command in JSON.
+fn put_database(file: &mut Vec<u8>, words: &[u8]) -> Result<(), NoMemory> {
+    file.extend_from_slice(b"[{\"directory\":\"b\",\"file\":\"../a.c\",\"command\":\"")?;
+    file.extend_from_slice(words)?;
+    file.extend_from_slice(b"\"}]")?;
+    Ok(())
+}
+
+/// Adds a command that compiles `a.c` below `/w`, with these lines.
+fn put_wanted(text: &mut Vec<u8>, lines: &[u8]) -> Result<(), NoMemory> {
+    text.extend_from_slice(b"main a.c\nin C\n")?;
+    text.extend_from_slice(lines)?;
+    text.extend_from_slice(b"root /w\n")?;
+    Ok(())
+}
+
+/// Whether a file makes the command of these lines.
+fn gives(alloc: Global, file: &[u8], lines: &[u8]) -> Result<bool, NoMemory> {
+    let mut wanted = Vec::new(alloc);
+    put_wanted(&mut wanted, lines)?;
+    make(alloc, file, b"/w", wanted.as_slice())
 }
 
 /// Whether words, as they are written in a command in JSON, make this for `/w/a.c`, with `/w` as the root and `/w/b` as
 /// the directory.
-fn give(alloc: Global, words: &[u8], wanted: &[u8]) -> Result<bool, NoMemory> {
-    let mut file = Vec::from_slice(
-        alloc,
-        b"[{\"directory\":\"b\",\"file\":\"../a.c\",\"command\":\"",
-    )?;
-    file.extend_from_slice(words)?;
-    file.extend_from_slice(b"\"}]")?;
-    let mut text = Vec::from_slice(alloc, b"main a.c\nin C\n")?;
-    text.extend_from_slice(wanted)?;
-    text.extend_from_slice(b"root /w\n")?;
-    make(alloc, file.as_slice(), b"/w", text.as_slice())
+fn give(alloc: Global, words: &[u8], lines: &[u8]) -> Result<bool, NoMemory> {
+    let mut file = Vec::new(alloc);
+    put_database(&mut file, words)?;
+    gives(alloc, file.as_slice(), lines)
 }
 
 /// Words, and what they give.
@@ -179,7 +217,13 @@ fn options_are_read(rt: HostRuntime) -> Result<(), Fail> {
 }
 
 /// Files, roots, and what their entries make.
-const SOURCES: [(&[u8], &[u8], &[u8]); 11] = [
+const SOURCES: [(&[u8], &[u8], &[u8]); 12] = [
+    // The worked example of two platforms: the second of them.
+    (
+        b"[{\"directory\":\"/\",\"file\":\"a.c\",\"arguments\":[\"cc\",\"-c\",\"a.c\",\"-DGPU\"]}]",
+        b"/",
+        b"main a.c\nin C\ndefine GPU\nwork /\nroot /\n",
+    ),
     // The worked example: a source below the root, compiled in a folder below it.
     (
         b"[{\"directory\":\"/w/build\",\"file\":\"/w/src/m.cpp\",\"command\":\"/usr/bin/c++ \\\"-DNAME=\\\\\\\"a b\\\\\\\"\\\" -I/w/inc -isystem /opt/x/include -O3 -o t/m.cpp.o -c /w/src/m.cpp\"}]",

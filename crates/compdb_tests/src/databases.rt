@@ -1,5 +1,5 @@
 //! Databases: their entries, the words of commands, and the first fault.
-use cb_compdb::{BadDatabase, DatabaseFault, Entry, one_database, one_splitting, read};
+use cb_compdb::{BadDatabase, DatabaseFault, Entries, Entry, one_database, one_splitting, read};
 use cb_paths::{Bytes, NoMemory};
 use std::alloc::Global;
 use std::test::Fail;
@@ -162,6 +162,17 @@ fn the_first_fault_is_told(rt: HostRuntime) -> Result<(), Fail> {
     Ok(())
 }
 
+/// Adds an array of so many items, and then an end.
+fn put_many(file: &mut Vec<u8>, count: u32, item: &[u8], end: &[u8]) -> Result<(), NoMemory> {
+    file.extend_from_slice(b"[")?;
+    for at in 0..count {
+        file.extend_from_slice(if at > 0 { b"," } else { b"" })?;
+        file.extend_from_slice(item)?;
+    }
+    file.extend_from_slice(end)?;
+    Ok(())
+}
+
 /// What a file comes to that is an array of so many items, and then of an end.
 fn outcome_of_many(
     alloc: Global,
@@ -169,14 +180,8 @@ fn outcome_of_many(
     item: &[u8],
     end: &[u8],
 ) -> Result<(u32, u32), NoMemory> {
-    let mut file = Vec::from_slice(alloc, b"[")?;
-    for at in 0..count {
-        if at > 0 {
-            file.push(b',')?;
-        }
-        file.extend_from_slice(item)?;
-    }
-    file.extend_from_slice(end)?;
+    let mut file = Vec::new(alloc);
+    put_many(&mut file, count, item, end)?;
     outcome(alloc, file.as_slice())
 }
 
@@ -217,33 +222,48 @@ fn faults_have_names(rt: HostRuntime) {
     }
 }
 
-/// The words of an entry, each in brackets.
-fn shown_words(alloc: Global, entry: &Entry) -> Result<Vec<u8>, NoMemory> {
-    let mut text = Vec::new(alloc);
-    for word in entry.words.as_slice() {
+/// Adds words, each in brackets.
+fn put_words(text: &mut Vec<u8>, words: &[Bytes]) -> Result<(), NoMemory> {
+    for word in words {
         text.push(b'<')?;
         text.extend_from_slice(word.as_slice())?;
         text.push(b'>')?;
     }
-    Ok(text)
+    Ok(())
 }
 
-/// Whether a command, as it is written in JSON, is split into these words.
-fn splits_into(alloc: Global, command: &[u8], wanted: &[u8]) -> Result<bool, NoMemory> {
-    let mut file = Vec::from_slice(
-        alloc,
-        b"[{\"directory\":\"/\",\"file\":\"a.c\",\"command\":\"",
-    )?;
+/// Whether an entry has these words, each in brackets.
+fn has_words(alloc: Global, entry: &Entry, wanted: &[u8]) -> Result<bool, NoMemory> {
+    let mut text = Vec::new(alloc);
+    put_words(&mut text, entry.words.as_slice())?;
+    Ok(text.as_slice() == wanted)
+}
+
+/// Adds a database whose one entry has a command, as it is written in JSON.
+fn put_database(file: &mut Vec<u8>, command: &[u8]) -> Result<(), NoMemory> {
+    file.extend_from_slice(b"[{\"directory\":\"/\",\"file\":\"a.c\",\"command\":\"")?;
     file.extend_from_slice(command)?;
     file.extend_from_slice(b"\"}]")?;
-    match read(alloc, file.as_slice()) {
+    Ok(())
+}
+
+/// Whether the first entry of a file has these words, each in brackets.
+fn begins_with(alloc: Global, file: &[u8], wanted: &[u8]) -> Result<bool, NoMemory> {
+    match read(alloc, file) {
         Ok(entries) => match entries.get(0) {
-            Some(entry) => Ok(shown_words(alloc, entry)?.as_slice() == wanted),
+            Some(entry) => has_words(alloc, entry, wanted),
             None => Ok(false),
         },
         Err(DatabaseFault::Bad(_)) => Ok(false),
         Err(DatabaseFault::NoMemory) => Err(NoMemory),
     }
+}
+
+/// Whether a command, as it is written in JSON, is split into these words.
+fn splits_into(alloc: Global, command: &[u8], wanted: &[u8]) -> Result<bool, NoMemory> {
+    let mut file = Vec::new(alloc);
+    put_database(&mut file, command)?;
+    begins_with(alloc, file.as_slice(), wanted)
 }
 
 /// Commands, as they are written in JSON, and their words.
@@ -286,29 +306,49 @@ fn commands_are_split(rt: HostRuntime) -> Result<(), Fail> {
     Ok(())
 }
 
+fn is_text(text: &Bytes, wanted: &[u8]) -> bool {
+    text.as_slice() == wanted
+}
+
+/// Whether an entry has these fields.
+fn has_fields(
+    alloc: Global,
+    entry: &Entry,
+    wanted: (&[u8], &[u8], &[u8]),
+) -> Result<bool, NoMemory> {
+    let (directory, file, words) = wanted;
+    if !is_text(&entry.directory, directory) || !is_text(&entry.file, file) {
+        return Ok(false);
+    }
+    has_words(alloc, entry, words)
+}
+
 /// Whether the entry at a place has these fields; none is wanted of one that is not there.
 fn has_entry(
     alloc: Global,
-    file: &[u8],
+    entries: &Entries,
     place: usize,
     wanted: Option<(&[u8], &[u8], &[u8])>,
 ) -> Result<bool, NoMemory> {
-    let Ok(entries) = read(alloc, file) else {
-        return Ok(false);
-    };
     match (entries.get(place), wanted) {
-        (Some(entry), Some((directory, file, words))) => Ok(
-            is_text(&entry.directory, directory)
-                && is_text(&entry.file, file)
-                && shown_words(alloc, entry)?.as_slice() == words,
-        ),
+        (Some(entry), Some(wanted)) => has_fields(alloc, entry, wanted),
         (None, None) => Ok(place >= entries.len() && place >= entries.as_slice().len()),
         _ => Ok(false),
     }
 }
 
-fn is_text(text: &Bytes, wanted: &[u8]) -> bool {
-    text.as_slice() == wanted
+/// The same of the entry of a file.
+fn tells(
+    alloc: Global,
+    file: &[u8],
+    place: usize,
+    wanted: Option<(&[u8], &[u8], &[u8])>,
+) -> Result<bool, NoMemory> {
+    match read(alloc, file) {
+        Ok(entries) => has_entry(alloc, &entries, place, wanted),
+        Err(DatabaseFault::Bad(_)) => Ok(false),
+        Err(DatabaseFault::NoMemory) => Err(NoMemory),
+    }
 }
 
 const TWICE: &[u8] =
@@ -324,10 +364,7 @@ const TOLD: [(usize, Option<(&[u8], &[u8], &[u8])>); 3] = [
 #[test]
 fn entries_stand_in_their_order(rt: HostRuntime) -> Result<(), Fail> {
     for (place, wanted) in TOLD {
-        assert!(rt;
-            has_entry(rt.alloc(), TWICE, place, wanted)?,
-            "entry {place}"
-        );
+        assert!(rt; tells(rt.alloc(), TWICE, place, wanted)?, "entry {place}");
     }
     Ok(())
 }
