@@ -37,7 +37,7 @@ named_line name rest =
     (either_line (bytes_eq name (codes "pragma")) (if begins_with_name (codes "once") rest then Once else Other) Other
     (either_line (begins_with_name (codes "once") rest) Once Other refl refl) refl))))))))))
 
-directive_line : (tokens : List Token) → is_line (kind_of tokens) ≡ true
+pub directive_line : (tokens : List Token) → is_line (kind_of tokens) ≡ true
 directive_line [] = refl
 directive_line (hash ∷ []) = refl
 directive_line (hash ∷ t ∷ ts) = either_line (is_identifier_kind t.kind) (kind_of_name t.text ts) Other (named_line t.text ts) refl

@@ -13,17 +13,16 @@ use Rattle.cb_tokens.specs.Cut.{Piece, StandsFirst, IsCut}
 use Rattle.cb_tokens.specs.Logical.{split_lines, with_piece, token_of, token_marks, spaced_after}
 use Rattle.cb_tree.specs.declared.fault.BuildFault.{BuildFault}
 use Rattle.cb_tree.specs.declared.fault.BuildFault.TheVariants.{Bad, NoMemory}
-use Rattle.cb_tree.specs.Kinds.{is_hash_text}
+use Rattle.cb_tree.specs.Kinds.{is_hash_text, kind_behind_hash}
 use Rattle.cb_tree.specs.inner.Reads.{piece_nodes}
-use Rattle.cb_tree.specs.declared.node.NodeKind.{NodeKind}
-use Rattle.cb_tree.specs.declared.opening.Hash.{Hash}
+use Rattle.cb_tree.specs.declared.hash.Hash.{Hash}
 use Rattle.cb_tokens.specs.declared.token.TokenKind.TheVariants as token
-use Rattle.cb_tree.specs.inner.Heads.{IsNamed, IsUnnamed, hash_text, hash_token, tokens_with}
-use Rattle.cb_tree.proofs.Hash.{hash_kind}
+use Rattle.cb_tree.specs.inner.Heads.{hash_text, hash_token, tokens_with}
+use Rattle.cb_tree.proofs.HashTokens.{hash_kind}
 use Rattle.cb_tree.specs.inner.Reads.{Reads, ReadsDirective, DirectiveStands, DirectiveGoes, Directive, node_in_brief, briefs_of, directive_on, Tells}
 use Rattle.cb_tree.specs.Nodes.{directive_node}
 use Rattle.cb_tree.proofs.Pieces.{passes, Cuts-trans, cut_of_none, open_after}
-use Rattle.cb_tree.proofs.Briefs.{in_brief}
+use Rattle.cb_tree.proofs.Briefs.{in_brief, directive_line}
 use Rattle.cb_tree.proofs.BriefSteps.{directive_begins, directive_goes, directive_ends}
 use Rattle.cb_tree.proofs.Runs.{counted_more, same_text}
 
@@ -143,18 +142,9 @@ goes_on spaced spaced' counted counted' counted'' from mid rest before between a
       (b.goes ms (own ++ a.kept) (a.goes ms own line));
 }
 
--- a directive whose name tells its kind is this node
-pub named_node : (j : TokenKind) (kind : NodeKind) (hash : Hash) (spaced : Bool) (text : List ℕ) (kept : List Token) (counted : List ℕ) → j ≡ token.Identifier → IsNamed text kind
-    → directive_node ((hash_token hash ∷ record { kind = j; text = text; spaced = spaced } ∷ []) ++ kept) counted
-    ≡ record { kind = kind; tokens = tokens_with kind hash spaced kept; counted = counted }
-named_node j kind hash spaced text kept counted e n = rw (e, n.kind_is kept, n.line, n.known, n.name_is) refl
-
--- one whose name does not tell it keeps all its tokens but the first
-pub other_node : (kind : NodeKind) (hash : Hash) (spaced : Bool) (kept : List Token) → IsUnnamed kind → hash_token hash ∷ kept ≡ tokens_with kind hash spaced kept
-other_node kind hash spaced kept h = rw (h.0, h.1) refl
-
-pub kept_behind : (before one after kept : List Token) (x : Token) → one ≡ before ++ x ∷ [] → after ≡ one ++ kept → after ≡ before ++ (x ∷ kept)
-kept_behind before one after kept x e f = f ∙ (ap (λ (ts : List Token). ts ++ kept) e ∙ append_assoc before (x ∷ []) kept)
+-- the tokens of a directive line, of which those behind its # are kept
+pub line_tokens_are : (hash : Hash) (kept : List Token) → hash_token hash ∷ kept ≡ tokens_with (kind_behind_hash kept) hash kept
+line_tokens_are hash kept = rw (directive_line (hash_token hash ∷ kept)) refl
 
 -- the # of a directive by its spelling
 pub hash_start : (rest : List Mark) (j : TokenKind) (n : ℕ) (hash : Hash) (counted : List ℕ) (behind : List Mark)

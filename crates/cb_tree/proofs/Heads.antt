@@ -1,16 +1,17 @@
 -- Nodes whose tokens lie one behind another.
-use Rattle.std.proofs.Common.{◌≡◌, ℕ, Bool, true, false, if◌then◌else◌, ◌+◌, ◌-◌, ◌<◌, ◌≤◌, List, [], ◌∷◌, ◌++◌, length, get_or, take, drop, Option, Some, refl, ap, sym, ◌∙◌, arith, length-append, length-drop}
+use Rattle.std.proofs.Common.{◌≡◌, ℕ, true, false, ◌+◌, ◌-◌, ◌<◌, ◌≤◌, List, [], ◌∷◌, ◌++◌, length, get_or, take, drop, Option, Some, refl, ap, sym, ◌∙◌, arith, length-append, length-drop}
 use Prim.Native.Nat.{zero, suc}
 use Rattle.std.specs.Prelude.{slice_get}
 use Rattle.std.proofs.lemmas.List.{take_all, drop_all, take-append-le, drop-append-le}
 use Rattle.cb_tokens.specs.declared.token.Token.{Token}
 use Rattle.cb_tree.specs.declared.nodes.Head.{Head}
 use Rattle.cb_tree.specs.declared.node.NodeKind.{NodeKind}
-use Rattle.cb_tree.specs.declared.opening.Hash.{Hash}
+use Rattle.cb_tree.specs.declared.hash.Hash.{Hash}
+use Rattle.cb_tree.specs.declared.hash.Hash.TheVariants.{Sign, Digraph}
 use Rattle.cb_tree.specs.Kinds.{rest_of, rest_behind_hash}
 use Rattle.cb_tree.specs.Nodes.{Node}
 use Rattle.cb_tree.specs.Skeleton.{Bone}
-use Rattle.cb_tree.specs.inner.Heads.{has_name, IsUnnamed, hash_token, name_token, lead_name, tokens_with, node_with, node_of, bone_with, node_in, nodes_in, AreWithin, kept_up_to, Adds}
+use Rattle.cb_tree.specs.inner.Heads.{hash_token, tokens_with, node_with, node_of, bone_with, node_in, nodes_in, AreWithin, kept_up_to, Adds}
 use Rattle.cb_tree.specs.Roles.{is_line}
 
 -- more tokens behind them change no node
@@ -42,9 +43,9 @@ own_part all before own to from e f t =
 
 -- the node that is added
 own_tokens : (before after : List Token) (head : Head) (own : List Token) → Adds before after head own
-    → tokens_with head.kind head.hash head.spaced (take (head.to - length before) (drop (length before) after)) ≡ own
+    → tokens_with head.kind head.hash (take (head.to - length before) (drop (length before) after)) ≡ own
 own_tokens before after head own a =
-    ap (tokens_with head.kind head.hash head.spaced) (own_part after before a.kept head.to (length before) a.added refl a.to_is) ∙ sym a.own_is
+    ap (tokens_with head.kind head.hash) (own_part after before a.kept head.to (length before) a.added refl a.to_is) ∙ sym a.own_is
 
 nodes_append : (heads : List Head) (head : Head) (tokens : List Token) (from : ℕ)
     → nodes_in tokens from (heads ++ head ∷ []) ≡ nodes_in tokens from heads ++ node_in tokens (kept_up_to from heads) head ∷ []
@@ -119,15 +120,11 @@ node_at (x ∷ xs) tokens from zero h lt e = ap (λ (y : Head). Some (node_in to
 node_at (x ∷ xs) tokens from (suc i) h lt e = node_at xs tokens x.to i h (omega arith) e
 
 -- what of it stands behind its name
-pub rest_of_text : (kind : NodeKind) (hash : Hash) (spaced : Bool) (kept : List Token) → is_line kind ≡ false → rest_of (tokens_with kind hash spaced kept) ≡ []
-rest_of_text kind hash spaced kept l = rw l refl
+pub rest_of_text : (kind : NodeKind) (hash : Hash) (kept : List Token) → is_line kind ≡ false → rest_of (tokens_with kind hash kept) ≡ []
+rest_of_text kind hash kept l = rw l refl
 
-pub rest_of_named : (kind : NodeKind) (hash : Hash) (spaced : Bool) (kept : List Token) → is_line kind ≡ true → has_name kind ≡ true
-    → rest_of (tokens_with kind hash spaced kept) ≡ kept
-rest_of_named kind hash spaced kept l h = rw (l, h) refl
-
-pub rest_of_other : (kind : NodeKind) (hash : Hash) (spaced : Bool) (kept : List Token) → IsUnnamed kind → rest_of (tokens_with kind hash spaced kept) ≡ rest_behind_hash kept
-rest_of_other kind hash spaced kept h = rw (h.0, h.1) refl
+pub rest_of_line : (kind : NodeKind) (hash : Hash) (kept : List Token) → is_line kind ≡ true → rest_of (tokens_with kind hash kept) ≡ rest_behind_hash kept
+rest_of_line kind hash kept l = rw l refl
 
 -- nodes that agree but for their lines are of one kind
 pub bone_kind : (a b : Head) (ts ts' : List Token) → bone_with ts a ≡ bone_with ts' b → a.kind ≡ b.kind
@@ -138,32 +135,24 @@ pub bones_text : (a b : Head) (ts ts' : List Token) → a.kind ≡ b.kind → is
 bones_text a b ts ts' k l = rw (sym k, l) refl
 
 -- directives agree where their tokens do
-pub bones_line : (a b : Head) (ts ts' : List Token) → a.kind ≡ b.kind → hash_token a.hash ≡ hash_token b.hash
-    → lead_name a.kind a.spaced ≡ lead_name a.kind b.spaced → ts ≡ ts' → bone_with ts a ≡ bone_with ts' b
-bones_line a b ts ts' k x n t = rw (sym k, x, n, t) refl
+pub bones_line : (a b : Head) (ts ts' : List Token) → a.kind ≡ b.kind → a.hash ≡ b.hash → ts ≡ ts' → bone_with ts a ≡ bone_with ts' b
+bones_line a b ts ts' k x t = rw (sym k, x, t) refl
 
 -- and only there
-abbrev named_before : Bool → Token → List Token → List Token
-named_before b y ts = (if b then y ∷ [] else []) ++ ts
-
-parted : (b : Bool) (y y' : Token) (ts ts' : List Token) → named_before b y ts ≡ named_before b y' ts'
-    → ((if b then y ∷ [] else []) ≡ (if b then y' ∷ [] else [])) × (ts ≡ ts')
-parted false y y' ts ts' h = (refl, h)
-parted true y y' ts ts' h =
-    let f : y ≡ y' = cc in
-    let g : ts ≡ ts' = cc in
-    (ap (λ (t : Token). t ∷ []) f, g)
-
 cons_parts : (x y : Token) (xs ys : List Token) → x ∷ xs ≡ y ∷ ys → (x ≡ y) × (xs ≡ ys)
 cons_parts x y xs ys h = (cc, cc)
 
-pub bone_parts : (a b : Head) (ts ts' : List Token) → a.kind ≡ b.kind → is_line a.kind ≡ true → bone_with ts a ≡ bone_with ts' b
-    → (hash_token a.hash ≡ hash_token b.hash) × (lead_name a.kind a.spaced ≡ lead_name a.kind b.spaced) × (ts ≡ ts')
+one_hash : (a b : Hash) → hash_token a ≡ hash_token b → a ≡ b
+one_hash Sign Sign h = refl
+one_hash Sign Digraph h = let e : 1 ≡ 2 = ap (λ (t : Token). length t.text) h in absurd (omega (arith, e))
+one_hash Digraph Sign h = let e : 2 ≡ 1 = ap (λ (t : Token). length t.text) h in absurd (omega (arith, e))
+one_hash Digraph Digraph h = refl
+
+pub bone_parts : (a b : Head) (ts ts' : List Token) → a.kind ≡ b.kind → is_line a.kind ≡ true → bone_with ts a ≡ bone_with ts' b → (a.hash ≡ b.hash) × (ts ≡ ts')
 bone_parts a b ts ts' k l h =
-    let t : tokens_with a.kind a.hash a.spaced ts ≡ tokens_with b.kind b.hash b.spaced ts' = ap (λ (bone : Bone). bone.tokens) h in
-    let u = cons_parts (hash_token a.hash) (hash_token b.hash) (lead_name a.kind a.spaced ++ ts) (lead_name a.kind b.spaced ++ ts') (rw (sym k, l) at t) in
-    let v = parted (has_name a.kind) (name_token a.kind a.spaced) (name_token a.kind b.spaced) ts ts' u.1 in
-    (u.0, v.0, v.1)
+    let t : tokens_with a.kind a.hash ts ≡ tokens_with b.kind b.hash ts' = ap (λ (bone : Bone). bone.tokens) h in
+    let u = cons_parts (hash_token a.hash) (hash_token b.hash) ts ts' (rw (sym k, l) at t) in
+    (one_hash a.hash b.hash u.0, u.1)
 
 pub same_of_some : (x y : Bone) → ◌≡◌ {A = Option Bone} (Some x) (Some y) → x ≡ y
 same_of_some x y h = cc

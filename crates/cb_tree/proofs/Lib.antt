@@ -7,7 +7,7 @@ pub mod Briefs
 pub mod BriefSteps
 pub mod Pieces
 pub mod ReadsMore
-pub mod Hash
+pub mod HashTokens
 pub mod Runs
 pub mod Directives
 pub mod Rows

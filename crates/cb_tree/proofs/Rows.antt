@@ -4,7 +4,7 @@ use Prim.Native.Nat.{zero, suc}
 use Rattle.std.proofs.lemmas.Bool.{cases_lt, ltb-true, lt-ltb, le-ltb}
 use Rattle.std.proofs.lemmas.List.{append-nil, drop-drop, drop-map, length-map, length-take-le}
 use Rattle.cb_lines.specs.declared.mark.Mark.{Mark}
-use Rattle.cb_lines.specs.Marks.{bytes_of, first_line, is_line_feed}
+use Rattle.cb_lines.specs.Marks.{bytes_of, is_line_feed}
 use Rattle.cb_lines.specs.Lines.{with_line, with_lines, StandOn}
 use Rattle.cb_tokens.specs.declared.token.Token.{Token}
 use Rattle.cb_tokens.specs.declared.token.TokenKind.{TokenKind}
@@ -12,15 +12,10 @@ use Rattle.cb_tokens.specs.declared.token.PieceKind.{PieceKind}
 use Rattle.cb_tokens.specs.declared.token.PieceKind.TheVariants as kinds
 use Rattle.cb_tokens.specs.declared.first.First.TheVariants as first
 use Rattle.cb_tokens.specs.Cut.{StandsFirst}
-use Rattle.cb_tokens.specs.declared.token.TokenKind.TheVariants as token
-use Rattle.cb_tree.specs.declared.node.NodeKind.{NodeKind}
-use Rattle.cb_tree.specs.declared.opening.Hash.{Hash}
-use Rattle.cb_tree.specs.Kinds.{is_hash_text}
-use Rattle.cb_tree.specs.inner.Heads.{hash_text, hash_token, name_of, name_token}
-use Rattle.cb_tree.specs.inner.Reads.{ReadsDirective, DirectiveGoes, DirectiveStands, GoesInRow, IsRow, row_counted}
+use Rattle.cb_tree.specs.inner.Reads.{DirectiveGoes, DirectiveStands, GoesInRow, row_counted}
 use Rattle.cb_tree.proofs.Pieces.{some_bytes}
 use Rattle.cb_tree.proofs.Runs.{one_line}
-use Rattle.cb_tree.proofs.Directives.{directive_white, directive_token, directive_ends_line, hash_start, goes_none, goes_on}
+use Rattle.cb_tree.proofs.Directives.{directive_white, directive_token, directive_ends_line, goes_none, goes_on}
 
 -- what is known of marks on one line
 abbrev pub Once : Type 0
@@ -159,71 +154,3 @@ row_ends spaced spaced' counted counted' bytes from before after n h e stands =
 -- it has a mark more
 pub one_more : (bytes : List ℕ) (n : ℕ) → StandsFirst (drop n bytes) (first.Piece kinds.LineEnd 1) → n + 1 ≤ length bytes
 one_more bytes n h = let within : 1 ≤ length (drop n bytes) = h.1.within in omega (arith, within, length-drop n bytes)
-
--- white space, if there is any
-row_blank : (bytes : List ℕ) (white : ℕ) → (0 < white → StandsFirst bytes (first.Piece kinds.White white)) → GoesInRow false bytes [] [] (nat_lt 0 white) white
-row_blank bytes zero h = row_none false bytes []
-row_blank bytes (suc white) h =
-    let e : 0 + suc white ≡ suc white = omega arith in
-    let some : nat_lt 0 (suc white) ≡ true = lt-ltb 0 (suc white) (omega arith) in
-    subst (λ (spaced : Bool). GoesInRow false bytes [] [] spaced (suc white)) (sym some)
-    (subst (GoesInRow false bytes [] [] true) e (row_white false false bytes [] [] 0 (suc white) (row_none false bytes []) (h (omega arith))))
-
--- a name behind it
-pub lead_goes : Once → (kind : NodeKind) (bytes : List ℕ) (white len : ℕ) → (0 < white → StandsFirst bytes (first.Piece kinds.White white))
-    → StandsFirst (drop white bytes) (first.Piece (kinds.Token token.Identifier) len) → take len (drop white bytes) ≡ name_of kind
-    → GoesInRow false bytes [] (name_token kind (nat_lt 0 white) ∷ []) false (white + len)
-lead_goes once kind bytes white len blank stands name =
-    row_token once false (nat_lt 0 white) bytes [] [] white len token.Identifier (name_of kind) (row_blank bytes white blank) stands (sym name)
-
--- a # and a name behind it, on one line
-pub lead_reads : Once → (rest : List Mark) (j : TokenKind) (n : ℕ) (hash : Hash) (name : Token) (len line : ℕ)
-    → StandsFirst (bytes_of rest) (first.Piece (kinds.Token j) n) → is_hash_text (take n (bytes_of rest)) ≡ true → hash_text hash ≡ take n (bytes_of rest)
-    → n ≤ len → StandOn line (take len rest) → GoesInRow false (drop n (bytes_of rest)) [] (name ∷ []) false (len - n)
-    → ReadsDirective rest (hash_token hash ∷ name ∷ []) false (with_line line []) (drop len rest)
-lead_reads once rest j n hash name len line stands is_hash text le on goes =
-    let parts : n + (len - n) ≡ len = omega arith in
-    let on : StandOn line (take (n + (len - n)) rest) = subst (λ (i : ℕ). StandOn line (take i rest)) (sym parts) on in
-    let counted : List ℕ = with_lines (take n rest) [] in
-    let first : ReadsDirective rest (hash_token hash ∷ []) false counted (drop n rest) = hash_start rest j n hash counted (drop n rest) stands is_hash text refl refl in
-    let g = goes (drop n rest) line counted (bytes_behind n (bytes_of rest) rest refl) (stand_behind line n (len - n) rest on) in
-    let kept : hash_token hash ∷ g.kept ≡ hash_token hash ∷ name ∷ [] = ap (λ (ts : List Token). hash_token hash ∷ ts) (sym g.added) in
-    let same : with_line line counted ≡ with_line line [] =
-    ap (with_line line) (once line (take n rest) [] (some_taken n rest j stands) (stand_front line n (len - n) rest on)) ∙ again once line [] in
-    let end : drop (len - n) (drop n rest) ≡ drop len rest = behind_both n (len - n) rest ∙ ap (λ (i : ℕ). drop i rest) parts in
-    rw (sym kept, sym same, sym end) (g.goes rest (hash_token hash ∷ []) first)
-
-counted_once : Once → (b : Bool) (line : ℕ) → (if b then with_line line (with_line line []) else with_line line []) ≡ with_line line []
-counted_once once true line = again once line []
-counted_once once false line = refl
-
--- no LF stands in a lead and what stands behind it in its row
-pub plain_lead : (bytes behind : List ℕ) (n m : ℕ) → behind ≡ drop n bytes → ((k : ℕ) → k < n → is_line_feed (get_or bytes k 0) ≡ false)
-    → ((k : ℕ) → k < m → is_line_feed (get_or behind k 0) ≡ false) → (k : ℕ) → k < n + m → is_line_feed (get_or bytes k 0) ≡ false
-plain_lead bytes behind n m e h g =
-    no_feed_behind bytes n m h (subst (λ (bs : List ℕ). (k : ℕ) → k < m → is_line_feed (get_or bs k 0) ≡ false) e g)
-
--- what stands behind a lead in its row adds no line to that of the lead
-pub behind_lead : Once → (from : List Mark) (behind counted : List ℕ) (before after : List Token) (n m end : ℕ) (spaced : Bool) → GoesInRow false behind before after spaced m
-    → behind ≡ drop n (bytes_of from) → IsRow end from → n + m ≤ end → ((k : ℕ) → k < n → is_line_feed (get_or (bytes_of from) k 0) ≡ false)
-    → ((k : ℕ) → k < m → is_line_feed (get_or behind k 0) ≡ false) → counted ≡ with_line (first_line from) []
-    → DirectiveGoes false counted (drop n from) before after (Some spaced) counted (drop m (drop n from))
-behind_lead once from behind counted before after n m end spaced goes e row within h g is =
-    let line : ℕ = first_line from in
-    let plain = plain_lead (bytes_of from) behind n m e h g in
-    let on : StandOn line (take (n + m) from) = row (n + m) within (λ k l. plain k (omega (arith, l))) in
-    let all = goes (drop n from) line counted (e ∙ bytes_behind n (bytes_of from) from refl) (stand_behind line n m from on) in
-    let same : row_counted (length before) (length after) line counted ≡ counted =
-    rw is (counted_once once (nat_lt (length before) (length after)) line) in
-    subst (λ (set : List ℕ). DirectiveGoes false counted (drop n from) before after (Some spaced) set (drop m (drop n from))) same all
-
--- no LF stands in a #, white space and a name
-pub lead_no_feed : ((bs : List ℕ) (kind : TokenKind) (len k : ℕ) → StandsFirst bs (first.Piece (kinds.Token kind) len) → k < len → is_line_feed (get_or bs k 0) ≡ false)
-    → (j : TokenKind) (bytes : List ℕ) (n white len : ℕ) → StandsFirst bytes (first.Piece (kinds.Token j) n)
-    → ((k : ℕ) → k < white → is_line_feed (get_or (drop n bytes) k 0) ≡ false) → StandsFirst (drop white (drop n bytes)) (first.Piece (kinds.Token token.Identifier) len)
-    → (k : ℕ) → k < n + white + len → is_line_feed (get_or bytes k 0) ≡ false
-lead_no_feed law j bytes n white len hash blank name =
-    let there : StandsFirst (drop (n + white) bytes) (first.Piece (kinds.Token token.Identifier) len) =
-    subst (λ (bs : List ℕ). StandsFirst bs (first.Piece (kinds.Token token.Identifier) len)) (drop-drop white n bytes) name in
-    no_feed_behind bytes (n + white) len (no_feed_behind bytes n white (λ k l. law bytes j n k hash l) blank)
-    (λ k l. law (drop (n + white) bytes) token.Identifier len k there l)

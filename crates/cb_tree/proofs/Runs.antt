@@ -21,7 +21,7 @@ use Rattle.cb_tree.specs.Nodes.{text_node}
 use Rattle.cb_tree.proofs.Pieces.{passes, Cuts-trans, cut_of_none, open_after}
 use Rattle.cb_tree.proofs.Briefs.{in_brief}
 use Rattle.cb_tree.proofs.BriefSteps.{skip_white, skip_comment, run_begins, run_goes, run_line_ends, run_line_begins, run_ends}
-use Rattle.cb_tree.proofs.Hash.{hash_next}
+use Rattle.cb_tree.proofs.HashTokens.{hash_next}
 
 -- lines of marks are added one list after another
 pub with_lines-append : (a b : List Mark) (set : List ℕ) → with_lines (a ++ b) set ≡ with_lines b (with_lines a set)

@@ -1,7 +1,5 @@
 //! The kind of a directive line, and what stands behind its name.
-ghost use Rattle.std.specs.Prelude.{◌≡◌, List, length, codes, IfSome, IfNone};
-ghost use Rattle.cb_tokens.specs.declared.token.Token.{Token};
-ghost use Rattle.cb_tree.specs.inner.Heads.{has_name, unnamed_kind, IsNamed};
+ghost use Rattle.std.specs.Prelude.{◌≡◌, codes};
 ghost use Rattle.cb_tree.specs.Roles.{is_line};
 ghost use Rattle.cb_tree.specs.Kinds.{is_hash_text, begins_with_name, kind_of_name, kind_behind_hash, rest_behind_hash};
 
@@ -36,56 +34,6 @@ pub(crate) fn rest_behind_hash(tokens: &[Token]) -> &[Token]
     }
 }
 
-/// The kind of a directive that is known by its name alone.
-#[tactic(auto, unfolding(crate::specs::Kinds::kind_of_name))]
-pub(crate) fn named_kind(name: &[u8]) -> Option<NodeKind>
-    ensures named { IfSome result (IsNamed name.now) }
-    ensures other { IfNone result ((more : List Token) → kind_of_name name.now more ≡ unnamed_kind name.now more) }
-{
-    if name == b"if".as_slice() {
-        Some(NodeKind::If)
-    } else if name == b"ifdef".as_slice() {
-        Some(NodeKind::Ifdef)
-    } else if name == b"ifndef".as_slice() {
-        Some(NodeKind::Ifndef)
-    } else if name == b"elif".as_slice() {
-        Some(NodeKind::Elif)
-    } else if name == b"else".as_slice() {
-        Some(NodeKind::Else)
-    } else if name == b"endif".as_slice() {
-        Some(NodeKind::Endif)
-    } else if name == b"define".as_slice() {
-        Some(NodeKind::Define)
-    } else if name == b"undef".as_slice() {
-        Some(NodeKind::Undef)
-    } else if name == b"include".as_slice() {
-        Some(NodeKind::Include)
-    } else if name == b"error".as_slice() {
-        Some(NodeKind::Error)
-    } else {
-        None
-    }
-}
-
-/// Whether a directive of the kind is known by its name alone.
-pub(crate) fn has_name(kind: NodeKind) -> bool
-    ensures { result ≡ has_name kind }
-{
-    match kind {
-        NodeKind::Text | NodeKind::Once | NodeKind::Other => false,
-        NodeKind::If
-        | NodeKind::Ifdef
-        | NodeKind::Ifndef
-        | NodeKind::Elif
-        | NodeKind::Else
-        | NodeKind::Endif
-        | NodeKind::Define
-        | NodeKind::Undef
-        | NodeKind::Include
-        | NodeKind::Error => true,
-    }
-}
-
 /// Whether a node of the kind is a directive line.
 pub(crate) fn is_line(kind: NodeKind) -> bool
     ensures { result ≡ is_line kind }
@@ -94,13 +42,34 @@ pub(crate) fn is_line(kind: NodeKind) -> bool
 }
 
 /// The kind of a directive by its name and the tokens behind that.
+#[tactic(auto, unfolding(crate::specs::Kinds::kind_of_name))]
 fn kind_of_name(name: &[u8], rest: &[Token]) -> NodeKind
     ensures { result ≡ kind_of_name name.now rest.now }
 {
-    match named_kind(name) {
-        Some(kind) => kind,
-        None if name == b"pragma".as_slice() && begins_with_once(rest) => NodeKind::Once,
-        None => NodeKind::Other,
+    if name == b"if".as_slice() {
+        NodeKind::If
+    } else if name == b"ifdef".as_slice() {
+        NodeKind::Ifdef
+    } else if name == b"ifndef".as_slice() {
+        NodeKind::Ifndef
+    } else if name == b"elif".as_slice() {
+        NodeKind::Elif
+    } else if name == b"else".as_slice() {
+        NodeKind::Else
+    } else if name == b"endif".as_slice() {
+        NodeKind::Endif
+    } else if name == b"define".as_slice() {
+        NodeKind::Define
+    } else if name == b"undef".as_slice() {
+        NodeKind::Undef
+    } else if name == b"include".as_slice() {
+        NodeKind::Include
+    } else if name == b"error".as_slice() {
+        NodeKind::Error
+    } else if name == b"pragma".as_slice() && begins_with_once(rest) {
+        NodeKind::Once
+    } else {
+        NodeKind::Other
     }
 }
 

@@ -1,19 +1,19 @@
 //! The nodes of a source. The tokens that are kept of their directives lie in one list.
 ghost use Rattle.std.specs.Prelude.{◌≡◌, ◌-◌, ◌<◌, ◌≤◌, ◌↔◌, length, take, drop, slice_get, Some, IsTrue};
 ghost use Rattle.std.specs.Option.{option_map};
-ghost use Rattle.cb_tree.specs.inner.Heads.{hash_token, kept_up_to, lead_name, node_of, bone_with};
+ghost use Rattle.cb_tree.specs.inner.Heads.{kept_up_to, node_of, bone_with};
 ghost use Rattle.cb_tree.specs.Nodes.{node_rest, total_lines};
 ghost use Rattle.cb_tree.specs.Skeleton.{bone_of};
 
-use crate::kind::{has_name, is_line, rest_behind_hash};
+use crate::hash::Hash;
+use crate::kind::{is_line, rest_behind_hash};
 use crate::node::NodeKind;
-use crate::opening::Hash;
 use crate::skeleton::are_same_tokens;
 use cb_lines::Lines;
 use cb_tokens::Token;
 use std::marker::Model;
 
-/// A node but for its tokens, of which those that do not follow from its kind lie among the tokens of all nodes.
+/// A node but for its tokens: those of a directive behind its `#` lie among the tokens of all nodes.
 #[derive(Drop)]
 pub(crate) struct Head {
     /// The number of the tokens that are kept of the nodes up to it. Its own stand behind those of the nodes before it.
@@ -22,8 +22,6 @@ pub(crate) struct Head {
     pub(crate) kind: NodeKind,
     /// The spelling of the `#` of a directive.
     pub(crate) hash: Hash,
-    /// Whether the name of a directive is spaced, where this tells the kind.
-    pub(crate) spaced: bool,
     /// The set of its counted lines.
     pub(crate) counted: Lines,
 }
@@ -69,13 +67,6 @@ fn kept_before(heads: &[Head], at: usize) -> u32
     if at == 0 { 0 } else { heads[at - 1].to }
 }
 
-/// Whether two directives of one kind agree in the tokens that are not kept.
-fn are_same_leads(a: &Head, b: &Head) -> bool
-    ensures { IsTrue result ↔ ((hash_token a.now.hash ≡ hash_token b.now.hash) × (lead_name a.now.kind a.now.spaced ≡ lead_name a.now.kind b.now.spaced)) }
-{
-    a.hash == b.hash && (!has_name(a.kind) || a.spaced == b.spaced)
-}
-
 /// Whether two nodes agree but for their lines, where these are the tokens that are kept of them.
 fn are_same(a: &Head, own: &[Token], b: &Head, others: &[Token]) -> bool
     ensures { IsTrue result ↔ (bone_with own.now a.now ≡ bone_with others.now b.now) }
@@ -86,7 +77,7 @@ fn are_same(a: &Head, own: &[Token], b: &Head, others: &[Token]) -> bool
     if !is_line(a.kind) {
         return true;
     }
-    are_same_leads(a, b) && are_same_tokens(own, others)
+    a.hash == b.hash && are_same_tokens(own, others)
 }
 
 impl Nodes {
@@ -128,10 +119,10 @@ impl Nodes {
         ensures { option_map node_rest (slice_get self.now at) ≡ Some result.now }
     {
         let (head, kept) = self.kept(at);
-        match head.kind {
-            NodeKind::Text => &[],
-            NodeKind::Once | NodeKind::Other => rest_behind_hash(kept),
-            _ => kept,
+        if is_line(head.kind) {
+            rest_behind_hash(kept)
+        } else {
+            &[]
         }
     }
 

@@ -4,10 +4,10 @@ ghost use Rattle.cb_tree.specs.inner.Reads.{Tells, ReadsNode, ReadsOut, Refuses,
 
 use crate::directive::read_directive;
 use crate::fault::BuildFault;
+use crate::hash::Hash;
 use crate::kind::is_hash_text;
 use crate::node::NodeKind;
 use crate::nodes::{Head, Nodes};
-use crate::opening::Hash;
 use crate::reading::{Start, look_ahead, skip_white};
 use crate::run::{read_on, read_run};
 use crate::sections::Sections;
@@ -19,13 +19,12 @@ use std::alloc::Global;
 
 /// The head of a run of text behind so many tokens.
 fn text_head(count: u32, counted: Lines) -> Head
-    ensures { result ≡ record { to = count; kind = NodeKind.Text; hash = Hash.Sign; spaced = false; counted = counted } }
+    ensures { result ≡ record { to = count; kind = NodeKind.Text; hash = Hash.Sign; counted = counted } }
 {
     Head {
         to: count,
         kind: NodeKind::Text,
         hash: Hash::Sign,
-        spaced: false,
         counted,
     }
 }

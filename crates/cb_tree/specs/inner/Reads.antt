@@ -1,8 +1,8 @@
 -- What the private steps of reading a source's nodes say.
-use Rattle.std.specs.Prelude.{◌≡◌, ◌⊎◌, ℕ, ◌+◌, ◌<◌, ◌≤◌, Bool, false, nat_lt, slice_index, if◌then◌else◌, List, [], ◌∷◌, ◌++◌, length, take, drop, map, Option, Some, None}
+use Rattle.std.specs.Prelude.{◌≡◌, ◌⊎◌, ℕ, ◌+◌, ◌<◌, ◌≤◌, Bool, nat_lt, if◌then◌else◌, List, [], ◌∷◌, ◌++◌, length, take, drop, map, Option, Some, None}
 use Rattle.std.specs.List.{flat_map}
 use Rattle.cb_lines.specs.declared.mark.Mark.{Mark}
-use Rattle.cb_lines.specs.Marks.{bytes_of, first_line, is_line_feed}
+use Rattle.cb_lines.specs.Marks.{bytes_of}
 use Rattle.cb_lines.specs.Lines.{lines_of, with_line, StandOn}
 use Rattle.cb_tokens.specs.declared.token.Token.{Token}
 use Rattle.cb_tokens.specs.declared.token.PieceKind.TheVariants as piece
@@ -18,7 +18,6 @@ use Rattle.cb_tree.specs.declared.reading.Ahead.{Ahead}
 use Rattle.cb_tree.specs.declared.reading.Start.{Start}
 use Rattle.cb_tree.specs.declared.reading.Place.{Place}
 use Rattle.cb_tree.specs.declared.reading.Place.TheVariants.{LineStart, InLine}
-use Rattle.cb_tree.specs.declared.opening.Second.{Second}
 use Rattle.cb_tree.specs.declared.row.InRow.{InRow}
 use Rattle.cb_tree.specs.declared.row.InRow.TheVariants as row
 use Rattle.cb_tree.specs.Kinds.{is_hash, kind_of}
@@ -136,10 +135,6 @@ IsInRow bytes at end (row.Token t) = StandsFirst (drop at bytes) (first.Piece (p
 IsInRow bytes at end row.LineEnd = StandsFirst (drop at bytes) (first.Piece piece.LineEnd 1)
 IsInRow bytes at end row.Beyond = Unit {0}
 
--- so many marks are a row: those up to the first LF among them stand on the line of the first one
-abbrev pub IsRow : ℕ → List Mark → Type 0
-IsRow end ms = (count : ℕ) → count ≤ end → ((k : ℕ) → k + 1 < count → is_line_feed (slice_index (bytes_of ms) k) ≡ false) → StandOn (first_line ms) (take count ms)
-
 -- counted lines with that of a row, where tokens of it were kept
 abbrev pub row_counted : ℕ → ℕ → ℕ → List ℕ → List ℕ
 row_counted before after line counted = if nat_lt before after then with_line line counted else counted
@@ -149,11 +144,6 @@ abbrev pub GoesInRow : Bool → List ℕ → List Token → List Token → Bool 
 GoesInRow spaced bytes before after spaced' n =
     (from : List Mark) (line : ℕ) (counted : List ℕ) → bytes ≡ bytes_of from → StandOn line (take n from)
     → DirectiveGoes spaced counted from before after (Some spaced') (row_counted (length before) (length after) line counted) (drop n from)
-
--- a token stands behind a #, or the directive has ended and is a node
-abbrev pub StandsBehind : List Mark → List Token → List ℕ → List Mark → Option Second → Type 0
-StandsBehind ms own counted rest None = Reads ms (directive_node own counted ∷ []) rest
-StandsBehind ms own counted rest (Some second) = ReadsDirective ms own second.spaced counted rest
 
 -- a directive that began with these tokens is a node, and is kept behind the nodes before it
 abbrev pub HeadReads : List Token → Bool → List ℕ → List Mark → List Token → List Token → List Mark → Head → Type 0

@@ -1,7 +1,7 @@
 use Rattle.std.proofs.Common.{refl}
 use Rattle.cb_lines.specs.Marks.{bytes_of}
 use Rattle.cb_tokens.specs.declared.token.TokenKind.TheVariants as token
-use Rattle.cb_tree.proofs.Hash.{hash_bytes}
+use Rattle.cb_tree.proofs.HashTokens.{hash_bytes}
 use Rattle.cb_tree.proofs.Runs.{run_ends_at}
 use Rattle.cb_tree.proofs.run.read_on.Goals as goal
 

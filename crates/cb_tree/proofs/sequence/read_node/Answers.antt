@@ -5,7 +5,7 @@ use Rattle.cb_lines.specs.declared.mark.Mark.{Mark}
 use Rattle.cb_tree.specs.inner.Reads.{Reads}
 use Rattle.cb_tree.proofs.ReadsMore.{reads_on, tells_after}
 use Rattle.cb_lines.specs.Marks.{bytes_of}
-use Rattle.cb_tree.proofs.Hash.{hash_bytes}
+use Rattle.cb_tree.proofs.HashTokens.{hash_bytes}
 use Rattle.cb_tree.proofs.NodeSteps.{node_after}
 use Rattle.cb_tree.proofs.sequence.read_node.Goals as goal
 
