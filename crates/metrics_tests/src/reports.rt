@@ -19,13 +19,11 @@ struct Source {
     used: &'static [Spans],
 }
 
-/// Figures, a kind of report, and its text. Where the measurements are no bytes, there are none.
+/// Sources with measurements, a kind of report, and its text. Where the measurements are no bytes, there are none.
 struct Case {
     kind: Kind,
     platforms: &'static [&'static [u8]],
     sources: &'static [Source],
-    groups: &'static [&'static [&'static [u8]]],
-    notes: &'static [(&'static [u8], u32, u32, u32, &'static [u8])],
     measurements: &'static [u8],
     text: &'static [u8],
 }
@@ -67,13 +65,11 @@ const EXAMPLE: &[u8] = b"problem,platform,application,fom\np,a,x,1\np,b,x,2\np,b
 /// The same with a failed run of x on c.
 const FAILING: &[u8] = b"problem,platform,application,fom\np,a,x,1\np,b,x,2\np,b,y,1\np,c,x,0\n";
 
-const CASES: [Case; 18] = [
+const CASES: [Case; 8] = [
     Case {
         kind: Kind::Summary,
         platforms: &[b"cpu", b"gpu"],
         sources: GUARDED,
-        groups: &[],
-        notes: &[],
         measurements: b"",
         text: b"platforms 2\n1 cpu\n2 gpu\nlines 6\n{cpu} 1 16.67\n{gpu} 1 16.67\n{cpu, gpu} 4 66.67\n\
             coverage 100.00\naverage coverage 83.33\ndivergence 0.3333\nconvergence 0.6667\n",
@@ -82,8 +78,6 @@ const CASES: [Case; 18] = [
         kind: Kind::Summary,
         platforms: &[],
         sources: &[],
-        groups: &[],
-        notes: &[],
         measurements: b"",
         text: b"platforms 0\nlines 0\ncoverage n/a\naverage coverage n/a\ndivergence n/a\nconvergence n/a\n",
     },
@@ -91,8 +85,6 @@ const CASES: [Case; 18] = [
         kind: Kind::Files,
         platforms: &[b"cpu", b"gpu"],
         sources: GUARDED,
-        groups: &[],
-        notes: &[],
         measurements: b"",
         text: b"a.c 6\n  cpu 1 3-6\n  gpu 1-3 5-6\n",
     },
@@ -111,8 +103,6 @@ const CASES: [Case; 18] = [
                 used: &[&[(2, 2), (4, 5)]],
             },
         ],
-        groups: &[],
-        notes: &[],
         measurements: b"",
         text: b"inc/k.h 1\n  {} 1\nsrc/m.cpp 6\n  cpu 2 4-5\n  {} 1 3 9\n",
     },
@@ -120,8 +110,6 @@ const CASES: [Case; 18] = [
         kind: Kind::Clustering,
         platforms: &[b"a", b"b", b"c"],
         sources: SHIFTED,
-        groups: &[],
-        notes: &[],
         measurements: b"",
         text: b"distance a b 0.2500\ndistance a c 0.5000\ndistance b c 0.2500\nmerge 1 {a} {b} 0.2500\n\
             merge 2 {a, b} {c} 0.2500\ncut 0.2500 {a, b, c}\n",
@@ -130,73 +118,13 @@ const CASES: [Case; 18] = [
         kind: Kind::Clustering,
         platforms: &[b"a"],
         sources: &[],
-        groups: &[],
-        notes: &[],
         measurements: b"",
         text: b"clustering n/a\n",
-    },
-    Case {
-        kind: Kind::Duplicates,
-        platforms: &[],
-        sources: &[],
-        groups: &[&[b"f1.c", b"f2.c"], &[b"x.c", b"y.c"]],
-        notes: &[],
-        measurements: b"",
-        text: b"group 1\n  f1.c\n  f2.c\ngroup 2\n  x.c\n  y.c\n",
-    },
-    Case {
-        kind: Kind::Duplicates,
-        platforms: &[],
-        sources: &[],
-        groups: &[&[b"f1.c", b"f2.c", b"f3.c", b"f4.c"]],
-        notes: &[],
-        measurements: b"",
-        text: b"group 1\n  f1.c\n  f2.c\n  f3.c\n  f4.c\n",
-    },
-    Case {
-        kind: Kind::Portability,
-        platforms: &[],
-        sources: &[],
-        groups: &[],
-        notes: &[],
-        measurements: EXAMPLE,
-        text: b"p,x,0.666667\np,y,0.000000 fails on a\n",
-    },
-    Case {
-        kind: Kind::Portability,
-        platforms: &[],
-        sources: &[],
-        groups: &[],
-        notes: &[],
-        measurements: FAILING,
-        text: b"p,x,0.000000 fails on c\np,y,0.000000 fails on a, c\n",
-    },
-    Case {
-        kind: Kind::Efficiency,
-        platforms: &[],
-        sources: &[],
-        groups: &[],
-        notes: &[],
-        measurements: FAILING,
-        text: b"p,x,a,1.000000\np,x,b,0.500000\np,x,c,0.000000 failed\n\
-            p,y,a,0.000000 failed\np,y,b,1.000000\np,y,c,0.000000 failed\n",
-    },
-    Case {
-        kind: Kind::Cascade,
-        platforms: &[],
-        sources: &[],
-        groups: &[],
-        notes: &[],
-        measurements: FAILING,
-        text: b"p,x,1,a,1.000000,1.000000\np,x,2,b,0.500000,0.666667\np,x,3,c,0.000000,0.000000\n\
-            p,y,1,b,1.000000,1.000000\np,y,2,a,0.000000,0.000000\np,y,3,c,0.000000,0.000000\n",
     },
     Case {
         kind: Kind::Navigation,
         platforms: &[b"cpu", b"gpu"],
         sources: GUARDED,
-        groups: &[],
-        notes: &[],
         measurements: EXAMPLE,
         text: b"p,x,0.6667,0.666667\np,y,0.6667,0.000000\n",
     },
@@ -204,52 +132,70 @@ const CASES: [Case; 18] = [
         kind: Kind::Navigation,
         platforms: &[],
         sources: &[],
-        groups: &[],
-        notes: &[],
         measurements: EXAMPLE,
         text: b"p,x,n/a,0.666667\np,y,n/a,0.000000\n",
     },
-    Case {
-        kind: Kind::Efficiency,
-        platforms: &[],
-        sources: &[],
-        groups: &[],
-        notes: &[],
-        measurements: b"",
-        text: b"measurements none\n",
-    },
-    Case {
-        kind: Kind::Cascade,
-        platforms: &[],
-        sources: &[],
-        groups: &[],
-        notes: &[],
-        measurements: b"problem,platform,application,fom\n",
-        text: b"measurements none\n",
-    },
-    Case {
-        kind: Kind::Notes,
-        platforms: &[],
-        sources: &[],
-        groups: &[],
-        notes: &[
+];
+
+/// Kinds of reports of measurements alone, files of measurements, and the texts. A file that is refused has none.
+const RUNS: [(Kind, &[u8], &[u8]); 6] = [
+    (
+        Kind::Portability,
+        EXAMPLE,
+        b"p,x,0.666667\np,y,0.000000 fails on a\n",
+    ),
+    (
+        Kind::Portability,
+        FAILING,
+        b"p,x,0.000000 fails on c\np,y,0.000000 fails on a, c\n",
+    ),
+    (
+        Kind::Efficiency,
+        FAILING,
+        b"p,x,a,1.000000\np,x,b,0.500000\np,x,c,0.000000 failed\n\
+            p,y,a,0.000000 failed\np,y,b,1.000000\np,y,c,0.000000 failed\n",
+    ),
+    (
+        Kind::Cascade,
+        FAILING,
+        b"p,x,1,a,1.000000,1.000000\np,x,2,b,0.500000,0.666667\np,x,3,c,0.000000,0.000000\n\
+            p,y,1,b,1.000000,1.000000\np,y,2,a,0.000000,0.000000\np,y,3,c,0.000000,0.000000\n",
+    ),
+    (Kind::Efficiency, b"", b"measurements none\n"),
+    (
+        Kind::Cascade,
+        b"problem,platform,application,fom\n",
+        b"measurements none\n",
+    ),
+];
+
+/// Groups of sources with equal bytes, and the text.
+const GROUPS: [(&[&[&[u8]]], &[u8]); 2] = [
+    (
+        &[&[b"f1.c", b"f2.c"], &[b"x.c", b"y.c"]],
+        b"group 1\n  f1.c\n  f2.c\ngroup 2\n  x.c\n  y.c\n",
+    ),
+    (
+        &[&[b"f1.c", b"f2.c", b"f3.c", b"f4.c"]],
+        b"group 1\n  f1.c\n  f2.c\n  f3.c\n  f4.c\n",
+    ),
+];
+
+/// Notes, each its path, its node, its line, its kind and its detail.
+type Notes = &'static [(&'static [u8], u32, u32, u32, &'static [u8])];
+
+/// Notes, and the text.
+const NOTES: [(Notes, &[u8]); 2] = [
+    (
+        &[
             (b"a.c", 0, 0, 10, b""),
             (b"src/m.cpp", 1, 1, 1, b"<vector>"),
             (b"z.c", 3, 7, 1, b"\"\\\x01\xff\""),
         ],
-        measurements: b"",
-        text: b"note a.c:start NoMain - commands 2 first 1\nnote src/m.cpp:1 Missing <vector> commands 2 first 1\n\
+        b"note a.c:start NoMain - commands 2 first 1\nnote src/m.cpp:1 Missing <vector> commands 2 first 1\n\
             note z.c:7 Missing \"\\\\\\x01\\xff\" commands 2 first 1\n",
-    },
-    Case {
-        kind: Kind::Notes,
-        platforms: &[],
-        sources: &[],
-        groups: &[],
-        notes: &[],
-        measurements: b"",
-        text: b"notes none\n",
-    },
+    ),
+    (&[], b"notes none\n"),
 ];
 
 fn row_of(alloc: Global, source: &Source) -> Result<FileRow, NoMemory> {
@@ -350,40 +296,36 @@ fn counted_of(alloc: Global, case: &Case) -> Result<Counted, NoMemory> {
     })
 }
 
-/// What reports list.
-#[derive(Drop)]
-struct Told {
-    platforms: Texts,
-    groups: TextLists,
-    notes: NoteRows,
-}
-
-fn told_of(alloc: Global, case: &Case) -> Result<Told, NoMemory> {
-    Ok(Told {
-        platforms: texts_of(alloc, case.platforms)?,
-        groups: groups_of(alloc, case.groups)?,
-        notes: notes_of(alloc, case.notes)?,
-    })
-}
-
-fn joined(alloc: Global, counted: Counted, told: Told, rows: Option<Rows>) -> Figures {
+/// No figures.
+fn none(alloc: Global) -> Figures {
     Figures {
-        platforms: told.platforms,
-        files: counted.files,
-        setmap: counted.setmap,
-        pairs: counted.pairs,
-        groups: told.groups,
-        rows,
+        platforms: Texts::new(alloc),
+        files: FileRows::from_vec(Vec::new(alloc)),
+        setmap: Setmap::new(alloc, 0),
+        pairs: Fractions::new(alloc),
+        groups: TextLists::from_vec(Vec::new(alloc)),
+        rows: None,
         databases: AbsentRows::from_vec(Vec::new(alloc)),
         idle: IdleRows::from_vec(Vec::new(alloc)),
-        notes: told.notes,
+        notes: NoteRows::from_vec(Vec::new(alloc)),
     }
+}
+
+/// The figures of platforms.
+fn joined(alloc: Global, platforms: Texts, counted: Counted, rows: Option<Rows>) -> Figures {
+    let mut figures = none(alloc);
+    figures.platforms = platforms;
+    figures.files = counted.files;
+    figures.setmap = counted.setmap;
+    figures.pairs = counted.pairs;
+    figures.rows = rows;
+    figures
 }
 
 fn figures_of(alloc: Global, case: &Case) -> Result<Figures, NoMemory> {
     let counted = counted_of(alloc, case)?;
-    let told = told_of(alloc, case)?;
-    Ok(joined(alloc, counted, told, rows_of(alloc, case.measurements)))
+    let platforms = texts_of(alloc, case.platforms)?;
+    Ok(joined(alloc, platforms, counted, rows_of(alloc, case.measurements)))
 }
 
 /// Whether figures print as a text.
@@ -397,19 +339,86 @@ fn prints(alloc: Global, kind: Kind, figures: &Figures, text: &[u8]) -> Result<b
     Ok(render(alloc, kind, figures)?.as_slice() == text)
 }
 
-/// The place of the first case that prints another text.
-fn first_failing(alloc: Global) -> Result<Option<usize>, NoMemory> {
-    for (at, case) in CASES.iter().enumerate() {
-        if !prints(alloc, case.kind, &figures_of(alloc, case)?, case.text)? {
-            return Ok(Some(at));
-        }
-    }
-    Ok(None)
+fn case_prints(alloc: Global, case: &Case) -> Result<bool, NoMemory> {
+    prints(alloc, case.kind, &figures_of(alloc, case)?, case.text)
 }
 
 #[test]
-fn reports_are_printed(rt: HostRuntime) -> Result<(), Fail> {
-    assert_eq!(rt; first_failing(rt.alloc())?, None);
+fn sources_are_reported(rt: HostRuntime) -> Result<(), Fail> {
+    for (at, case) in CASES.iter().enumerate() {
+        assert!(rt; case_prints(rt.alloc(), case)?, "{at}");
+    }
+    Ok(())
+}
+
+/// Figures with these measurements alone.
+fn measured(alloc: Global, rows: Option<Rows>) -> Figures {
+    let mut figures = none(alloc);
+    figures.rows = rows;
+    figures
+}
+
+/// Whether measurements alone print as a text.
+fn runs_print(
+    alloc: Global,
+    kind: Kind,
+    measurements: &[u8],
+    text: &[u8],
+) -> Result<bool, NoMemory> {
+    let rows = rows_of(alloc, measurements);
+    prints(alloc, kind, &measured(alloc, rows), text)
+}
+
+#[test]
+fn measurements_are_reported(rt: HostRuntime) -> Result<(), Fail> {
+    for (at, (kind, measurements, text)) in RUNS.iter().enumerate() {
+        assert!(rt;
+            runs_print(rt.alloc(), *kind, *measurements, *text)?,
+            "{at}"
+        );
+    }
+    Ok(())
+}
+
+/// Figures with these groups alone.
+fn grouped(alloc: Global, groups: TextLists) -> Figures {
+    let mut figures = none(alloc);
+    figures.groups = groups;
+    figures
+}
+
+/// Whether groups print as a text.
+fn groups_print(alloc: Global, groups: &[&[&[u8]]], text: &[u8]) -> Result<bool, NoMemory> {
+    let groups = groups_of(alloc, groups)?;
+    prints(alloc, Kind::Duplicates, &grouped(alloc, groups), text)
+}
+
+#[test]
+fn duplicates_are_reported(rt: HostRuntime) -> Result<(), Fail> {
+    for (at, (groups, text)) in GROUPS.iter().enumerate() {
+        assert!(rt; groups_print(rt.alloc(), *groups, *text)?, "{at}");
+    }
+    Ok(())
+}
+
+/// Figures with these notes alone.
+fn noted(alloc: Global, notes: NoteRows) -> Figures {
+    let mut figures = none(alloc);
+    figures.notes = notes;
+    figures
+}
+
+/// Whether notes print as a text.
+fn notes_print(alloc: Global, notes: Notes, text: &[u8]) -> Result<bool, NoMemory> {
+    let notes = notes_of(alloc, notes)?;
+    prints(alloc, Kind::Notes, &noted(alloc, notes), text)
+}
+
+#[test]
+fn notes_are_reported(rt: HostRuntime) -> Result<(), Fail> {
+    for (at, (notes, text)) in NOTES.iter().enumerate() {
+        assert!(rt; notes_print(rt.alloc(), *notes, *text)?, "{at}");
+    }
     Ok(())
 }
 
@@ -437,29 +446,22 @@ fn idle_rows(alloc: Global) -> Result<IdleRows, NoMemory> {
     Ok(IdleRows::from_vec(rows))
 }
 
-/// Figures with those two, and nothing else.
-fn idle_figures(databases: AbsentRows, idle: IdleRows, alloc: Global) -> Figures {
-    Figures {
-        platforms: Texts::new(alloc),
-        files: FileRows::from_vec(Vec::new(alloc)),
-        setmap: Setmap::new(alloc, 0),
-        pairs: Fractions::new(alloc),
-        groups: TextLists::from_vec(Vec::new(alloc)),
-        rows: None,
-        databases,
-        idle,
-        notes: NoteRows::from_vec(Vec::new(alloc)),
-    }
+/// Figures with those two alone.
+fn idled(alloc: Global, databases: AbsentRows, idle: IdleRows) -> Figures {
+    let mut figures = none(alloc);
+    figures.databases = databases;
+    figures.idle = idle;
+    figures
 }
 
 /// Whether what makes no command is printed.
 fn idle_entries_print(alloc: Global) -> Result<bool, NoMemory> {
     let databases = absent_rows(alloc)?;
-    let figures = idle_figures(databases, idle_rows(alloc)?, alloc);
+    let idle = idle_rows(alloc)?;
     prints(
         alloc,
         Kind::Notes,
-        &figures,
+        &idled(alloc, databases, idle),
         b"database gpu gpu.json absent\ncommand 3 cpu outside\ncommand 12 cpu unsupported\n",
     )
 }
