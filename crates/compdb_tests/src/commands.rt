@@ -58,6 +58,14 @@ fn put_made(text: &mut Vec<u8>, made: &Made) -> Result<(), NoMemory> {
     }
 }
 
+/// What an entry makes, as lines of text.
+fn put_entry(alloc: Global, text: &mut Vec<u8>, entry: &Entry, root: &Dir) -> Result<(), NoMemory> {
+    match command(alloc, entry, root) {
+        Ok(made) => put_made(text, &made),
+        Err(NoMemory) => Err(NoMemory),
+    }
+}
+
 /// What entries make, as lines of text, one behind the other.
 fn put_all(
     alloc: Global,
@@ -66,7 +74,7 @@ fn put_all(
     root: &Dir,
 ) -> Result<(), NoMemory> {
     for entry in entries {
-        put_made(text, &command(alloc, entry, root)?)?;
+        put_entry(alloc, text, entry, root)?;
     }
     Ok(())
 }
@@ -143,7 +151,7 @@ fn give(alloc: Global, words: &[u8], lines: &[u8]) -> Result<bool, NoMemory> {
 }
 
 /// Words, and what they give.
-const OPTIONS: [(&[u8], &[u8]); 20] = [
+const OPTIONS: [(&[u8], &[u8]); 13] = [
     // No words, and no options: the first word is the compiler, whatever it looks like.
     (b"", b"work /w/b\n"),
     (b"cc", b"work /w/b\n"),
@@ -180,6 +188,10 @@ const OPTIONS: [(&[u8], &[u8]); 20] = [
         b"work /w/b\nforced a.h\nforced ../b.h\n",
     ),
     (b"cc -includea.h -include", b"work /w/b\n"),
+];
+
+/// Words that are passed over, and what is left to give.
+const PASSED: [(&[u8], &[u8]); 7] = [
     // Options whose next word is passed over too.
     (
         b"cc -o -DA -x -DB -MF -DC -MT -DD -MQ -DE -idirafter -DF -DG",
@@ -207,6 +219,18 @@ const OPTIONS: [(&[u8], &[u8]); 20] = [
 #[test]
 fn options_are_read(rt: HostRuntime) -> Result<(), Fail> {
     for (words, wanted) in OPTIONS {
+        assert!(rt;
+            give(rt.alloc(), words, wanted)?,
+            "{}",
+            words.escape_ascii()
+        );
+    }
+    Ok(())
+}
+
+#[test]
+fn other_words_are_passed_over(rt: HostRuntime) -> Result<(), Fail> {
+    for (words, wanted) in PASSED {
         assert!(rt;
             give(rt.alloc(), words, wanted)?,
             "{}",

@@ -21,8 +21,11 @@ fn place_of(bad: BadDatabase) -> u32 {
     }
 }
 
-/// Files, the number of their first fault, and its entry; 0 and the number of entries where there is none.
-const FAULTY: [(&[u8], u32, u32); 38] = [
+/// A file, the number of its first fault, and its entry; 0 and the number of entries where there is none.
+type Row = (&'static [u8], u32, u32);
+
+/// Files that are no database as a whole, or whose items are no objects.
+const FORMS: [Row; 13] = [
     // No JSON: nothing, a byte order mark, an end that lacks, a text behind the value, bytes that are no UTF-8.
     (b"", 1, 0),
     (b"\xef\xbb\xbf[]", 1, 0),
@@ -44,6 +47,10 @@ const FAULTY: [(&[u8], u32, u32); 38] = [
         3,
         1,
     ),
+];
+
+/// Items that lack a field, or have one of another type.
+const FIELDS: [Row; 12] = [
     // Each field missing, and of another type.
     (b"[{}]", 4, 0),
     (b"[{\"file\":\"a.c\",\"command\":\"cc\"}]", 4, 0),
@@ -90,6 +97,10 @@ const FAULTY: [(&[u8], u32, u32); 38] = [
         0,
         1,
     ),
+];
+
+/// Quotes without an end, and which of two faults comes first.
+const ORDER: [Row; 13] = [
     // A quote without an end.
     (
         b"[{\"directory\":\"/\",\"file\":\"a.c\",\"command\":\"cc 'a\"}]",
@@ -150,9 +161,33 @@ const FAULTY: [(&[u8], u32, u32); 38] = [
 ];
 
 #[test]
-fn the_first_fault_is_told(rt: HostRuntime) -> Result<(), Fail> {
+fn files_have_a_form(rt: HostRuntime) -> Result<(), Fail> {
     one_database();
-    for (file, number, place) in FAULTY {
+    for (file, number, place) in FORMS {
+        assert!(rt;
+            outcome(rt.alloc(), file)? == (number, place),
+            "{}",
+            file.escape_ascii()
+        );
+    }
+    Ok(())
+}
+
+#[test]
+fn entries_have_fields(rt: HostRuntime) -> Result<(), Fail> {
+    for (file, number, place) in FIELDS {
+        assert!(rt;
+            outcome(rt.alloc(), file)? == (number, place),
+            "{}",
+            file.escape_ascii()
+        );
+    }
+    Ok(())
+}
+
+#[test]
+fn the_first_fault_is_told(rt: HostRuntime) -> Result<(), Fail> {
+    for (file, number, place) in ORDER {
         assert!(rt;
             outcome(rt.alloc(), file)? == (number, place),
             "{}",
