@@ -82,7 +82,8 @@ impl Memory {
         node: u32,
         tokens: &[Token],
     ) -> Result<Effect, NoMemory>
-        ensures { IfOk result (λ e. (language : Tongue) → HasEffect language kinds.Define (record { path = path.now; node = node }) tokens.now
+        ensures { IfOk result (λ e. (language : Tongue)
+            → HasEffect language kinds.Define (record { path = path.now; node = node }) tokens.now
             self.old self.new e.condition e.header) }
     {
         let read = read_define(alloc, tokens);
@@ -98,7 +99,8 @@ impl Memory {
         node: u32,
         tokens: &[Token],
     ) -> Result<Effect, NoMemory>
-        ensures { IfOk result (λ e. (language : Tongue) → HasEffect language kinds.Undef (record { path = path.now; node = node }) tokens.now
+        ensures { IfOk result (λ e. (language : Tongue)
+            → HasEffect language kinds.Undef (record { path = path.now; node = node }) tokens.now
             self.old self.new e.condition e.header) }
     {
         self.undefine(alloc, path, node, undef_name(tokens), b"")?;
@@ -107,7 +109,8 @@ impl Memory {
 
     /// `#pragma once`
     pub(crate) fn once(&mut self, alloc: Global, path: &Path) -> Result<Effect, NoMemory>
-        ensures { IfOk result (λ e. (language : Tongue) (node : ℕ) (tokens : List Piece) → HasEffect language kinds.Once (record { path = path.now; node = node }) tokens
+        ensures { IfOk result (λ e. (language : Tongue) (node : ℕ) (tokens : List Piece)
+            → HasEffect language kinds.Once (record { path = path.now; node = node }) tokens
             self.old self.new e.condition e.header) }
     {
         self.read_once(alloc, path)?;
@@ -121,7 +124,8 @@ impl Memory {
         path: &Path,
         node: u32,
     ) -> Result<Effect, NoMemory>
-        ensures { IfOk result (λ e. (language : Tongue) (tokens : List Piece) → HasEffect language kinds.Error (record { path = path.now; node = node }) tokens
+        ensures { IfOk result (λ e. (language : Tongue) (tokens : List Piece)
+            → HasEffect language kinds.Error (record { path = path.now; node = node }) tokens
             self.old self.new e.condition e.header) }
     {
         self.note(alloc, path, node, NoteKind::ErrorReached, b"")?;
@@ -130,7 +134,8 @@ impl Memory {
 
     /// A word of `-D` or `-U`.
     pub(crate) fn take_word(&mut self, alloc: Global, path: &Path, op: &Op) -> Result<(), NoMemory>
-        ensures { OnOk result ((language : Tongue) → (answer : Said) × IsAnswered language self.old.macros (Word op.now) answer
+        ensures { OnOk result ((language : Tongue) → (answer : Said)
+            × IsAnswered language self.old.macros (Word op.now) answer
             × ((s : State) → with_memo self.new s
             ≡ answered (record { path = path.now; node = 0 }) (word_of op.now) answer (with_memo self.old s))) }
     {

@@ -193,7 +193,8 @@ impl Memory {
         node: u32,
         tokens: &[Token],
     ) -> Result<Effect, NoMemory>
-        ensures { IfOk result (λ e. (language : Tongue) → HasEffect language kinds.Ifdef (record { path = path.now; node = node }) tokens.now
+        ensures { IfOk result (λ e. (language : Tongue)
+            → HasEffect language kinds.Ifdef (record { path = path.now; node = node }) tokens.now
             self.old self.new e.condition e.header) }
     {
         let name = first_name(tokens);
@@ -210,7 +211,8 @@ impl Memory {
         node: u32,
         tokens: &[Token],
     ) -> Result<Effect, NoMemory>
-        ensures { IfOk result (λ e. (language : Tongue) → HasEffect language kinds.Ifndef (record { path = path.now; node = node }) tokens.now
+        ensures { IfOk result (λ e. (language : Tongue)
+            → HasEffect language kinds.Ifndef (record { path = path.now; node = node }) tokens.now
             self.old self.new e.condition e.header) }
     {
         let name = first_name(tokens);
@@ -228,7 +230,8 @@ impl Memory {
         node: u32,
         tokens: &[Token],
     ) -> Result<Effect, NoMemory>
-        ensures { IfOk result (λ e. HasEffect language kinds.Include (record { path = path.now; node = node }) tokens.now
+        ensures { IfOk result (λ e. HasEffect language kinds.Include (record { path = path.now; node = node })
+            tokens.now
             self.old self.new e.condition e.header) }
     {
         let reply = header_named(alloc, &self.macros, language, tokens)?;

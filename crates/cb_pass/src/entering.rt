@@ -68,7 +68,8 @@ fn note_missing(
     node: u32,
     header: &Header,
 ) -> Result<(), NoMemory>
-    ensures { OnOk result (IsNoted trail.old trail.new (record { path = path.now; node = node }) notes.Missing (spelled_header header.now)) }
+    ensures { OnOk result (IsNoted trail.old trail.new (record { path = path.now; node = node }) notes.Missing
+        (spelled_header header.now)) }
 {
     let text = spelled(alloc, header)?;
     trail.note(alloc, path, node, NoteKind::Missing, text.as_slice())?;
@@ -86,7 +87,8 @@ fn enter_found<'a, F: Files>(
     found: Path,
 ) -> Result<Option<OpenFile<'a>>, NoMemory>
     requires { has_path trail.old.probes found ≡ true }
-    ensures { IfOk result (λ file. IsEntered (F.skeletons files.now) (record { path = path.now; node = node }) depth found
+    ensures { IfOk result (λ file. IsEntered (F.skeletons files.now) (record { path = path.now; node = node }) depth
+        found
         trail.old trail.new file) }
 {
     if trail.is_read_once(&found) {

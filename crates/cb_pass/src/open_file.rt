@@ -45,7 +45,8 @@ impl<'a> Model for OpenFile<'a> {
       place = f.place;
     } };
 
-    ghost invariant = { λ f. (f.passed ≤ f.count) × (f.count ≡ length f.tree.now) × (f.count < 2 ^ 32) × (f.depth ≤ DEPTH_LIMIT) };
+    ghost invariant = { λ f. (f.passed ≤ f.count) × (f.count ≡ length f.tree.now) × (f.count < 2 ^ 32)
+        × (f.depth ≤ DEPTH_LIMIT) };
 }
 
 impl<'a> OpenFile<'a> {
@@ -182,8 +183,8 @@ impl<'a> OpenFile<'a> {
 
     /// Goes over the group in which it stands, where that is not taken.
     fn pass_dead_group(&mut self)
-        ensures moved { (files : Skeletons) (command : Told) (s : State)
-            → Goes files command (record s { frames = self.old.frame ∷ s.frames }) (record s { frames = self.new.frame ∷ s.frames }) }
+        ensures moved { (files : Skeletons) (command : Told) (s : State) → Goes files command
+            (record s { frames = self.old.frame ∷ s.frames }) (record s { frames = self.new.frame ∷ s.frames }) }
         ensures path { self.new.frame.path ≡ self.old.frame.path }
         ensures same { self.new.place ≡ self.old.place }
     {
@@ -196,8 +197,8 @@ impl<'a> OpenFile<'a> {
     /// Goes to the next node that is reached, and answers its kind; none where it comes to the end.
     pub(crate) fn settle(&mut self) -> Result<Option<NodeKind>, NoMemory>
         ensures at { IfOk result (λ kind. AtNext kind self.new.frame) }
-        ensures moved { OnOk result ((files : Skeletons) (command : Told) (s : State)
-            → Goes files command (record s { frames = self.old.frame ∷ s.frames }) (record s { frames = self.new.frame ∷ s.frames })) }
+        ensures moved { OnOk result ((files : Skeletons) (command : Told) (s : State) → Goes files command
+            (record s { frames = self.old.frame ∷ s.frames }) (record s { frames = self.new.frame ∷ s.frames })) }
         ensures path { OnOk result (self.new.frame.path ≡ self.old.frame.path) }
         ensures same { OnOk result (self.new.place ≡ self.old.place) }
     {

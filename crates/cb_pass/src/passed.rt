@@ -69,7 +69,8 @@ impl Passed {
     pub fn row(&self, place: usize) -> &NodeSet
         requires { place < length self.now.probes }
         ensures row { result.now ≡ slice_index_or self.now.rows place [] }
-        ensures reached { (n : ℕ) → has_bit result.now n ≡ reached_in self.now (slice_index_or self.now.probes place []) n }
+        ensures reached { (n : ℕ) → has_bit result.now n ≡ reached_in self.now (slice_index_or self.now.probes place
+            []) n }
     {
         let _distinct = self.probes.len();
         &self.rows[place]

@@ -30,7 +30,8 @@ fn define_number(
     number: &[u8],
 ) -> Result<(), NoMemory>
     requires { defines (record { kind = tokens.Identifier; spaced = true; text = name.now }
-        ∷ record { kind = tokens.Number; spaced = true; text = number.now } ∷ []) ≡ Some (name.now, number_macro number.now) }
+        ∷ record { kind = tokens.Number; spaced = true; text = number.now } ∷ [])
+        ≡ Some (name.now, number_macro number.now) }
     ensures { OnOk result (macros.new ≡ with_definition name.now (number_macro number.now) macros.old) }
 {
     let pair = [

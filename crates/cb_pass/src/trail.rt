@@ -74,8 +74,10 @@ impl Trail {
         requires place { place < length self.old.probes }
         ensures count { OnOk result (self.new.count ≡ suc self.old.count) }
         ensures same { OnOk result ((self.new.memo ≡ self.old.memo) × (self.new.probes ≡ self.old.probes)) }
-        ensures marked { OnOk result ((path p : List ℕ) (n : ℕ) → position_or_len (bytes_eq path) self.old.probes ≡ place
-            → is_in self.new.probes self.new.rows p n ≡ ((bytes_eq p path && (n == node)) || is_in self.old.probes self.old.rows p n)) }
+        ensures marked { OnOk result ((path p : List ℕ) (n : ℕ) → position_or_len (bytes_eq path) self.old.probes
+            ≡ place
+            → is_in self.new.probes self.new.rows p n ≡ ((bytes_eq p path && (n == node)) || is_in self.old.probes
+            self.old.rows p n)) }
     {
         add_node(alloc, &mut self.rows, place, node)?;
         self.count += 1;
@@ -99,7 +101,8 @@ impl Trail {
 
     /// Takes a word of `-D` or `-U`, of a command with this main file.
     pub(crate) fn take_word(&mut self, alloc: Global, main: &Path, op: &Op) -> Result<(), NoMemory>
-        ensures { OnOk result ((language : Tongue) → (answer : Said) × IsAnswered language self.old.memo.macros (Word op.now) answer
+        ensures { OnOk result ((language : Tongue) → (answer : Said)
+            × IsAnswered language self.old.memo.macros (Word op.now) answer
             × ((fs : List Frame) (waiting : List Waiting) → state_of self.new fs waiting
             ≡ answered (record { path = main.now; node = 0 }) (word_of op.now) answer (state_of self.old fs waiting))
             × (self.new.probes ≡ self.old.probes)) }
@@ -150,7 +153,8 @@ impl Trail {
     /// The place of a path, if it was looked at.
     pub(crate) fn place_of(&self, path: &Path) -> Option<usize>
         ensures { MatchOption result (has_path self.now.probes path.now ≡ false)
-            (λ place. (position_or_len (bytes_eq path.now) self.now.probes ≡ place) × (place < length self.now.probes)) }
+            (λ place. (position_or_len (bytes_eq path.now) self.now.probes ≡ place)
+            × (place < length self.now.probes)) }
     {
         self.probes.place_of(path)
     }
@@ -158,7 +162,8 @@ impl Trail {
     /// What is kept at the end.
     pub(crate) fn finish(self, alloc: Global) -> Result<Passed, NoMemory>
         ensures { IfOk result (λ passed. (passed.count ≡ self.count) × (passed.probes ≡ self.probes)
-            × (passed.notes ≡ self.memo.notes) × ((p : List ℕ) (n : ℕ) → is_in passed.probes passed.rows p n ≡ is_in self.probes self.rows p n)) }
+            × (passed.notes ≡ self.memo.notes) × ((p : List ℕ) (n : ℕ) → is_in passed.probes passed.rows p n
+            ≡ is_in self.probes self.rows p n)) }
     {
         let count = self.count;
         let memory = self.memory;
@@ -179,7 +184,8 @@ impl Trail {
 
 /// Puts empty sets behind some until one stands at this place.
 fn grow(alloc: Global, rows: &mut Vec<NodeSet>, place: usize) -> Result<(), NoMemory>
-    ensures same { OnOk result ((paths : List (List ℕ)) (p : List ℕ) (n : ℕ) → is_in paths rows.new.items p n ≡ is_in paths rows.old.items p n) }
+    ensures same { OnOk result ((paths : List (List ℕ)) (p : List ℕ) (n : ℕ) → is_in paths rows.new.items p n
+        ≡ is_in paths rows.old.items p n) }
     ensures within { length rows.new.items ≤ max (suc place) (length rows.old.items) }
     ensures there { OnOk result (place < length rows.new.items) }
 {
@@ -192,8 +198,10 @@ fn grow(alloc: Global, rows: &mut Vec<NodeSet>, place: usize) -> Result<(), NoMe
 /// Adds a node to the set at a place.
 fn add_node(alloc: Global, rows: &mut Vec<NodeSet>, place: usize, node: u32) -> Result<(), NoMemory>
     ensures within { length rows.new.items ≤ max (suc place) (length rows.old.items) }
-    ensures marked { OnOk result ((paths : List (List ℕ)) (path p : List ℕ) (n : ℕ) → position_or_len (bytes_eq path) paths ≡ place
-        → place < length paths → is_in paths rows.new.items p n ≡ ((bytes_eq p path && (n == node)) || is_in paths rows.old.items p n)) }
+    ensures marked { OnOk result ((paths : List (List ℕ)) (path p : List ℕ) (n : ℕ)
+        → position_or_len (bytes_eq path) paths ≡ place
+        → place < length paths → is_in paths rows.new.items p n
+        ≡ ((bytes_eq p path && (n == node)) || is_in paths rows.old.items p n)) }
 {
     grow(alloc, rows, place)?;
     rows[place].add(node)?;

@@ -50,11 +50,13 @@ fn visit(
     requires next { IsReachedNext kind file.old.frame }
     requires room { trail.old.count < NODE_LIMIT }
     requires placed { ArePlaced trail.old.probes (file.old ∷ []) }
-    ensures visited { IfOk result (λ header. IsVisited language trail.old file.old.frame trail.new file.new.frame header) }
+    ensures visited { IfOk result (λ header. IsVisited language trail.old file.old.frame trail.new file.new.frame
+        header) }
     ensures placed { OnOk result (ArePlaced trail.new.probes (file.new ∷ [])) }
     ensures probes { OnOk result (trail.new.probes ≡ trail.old.probes) }
     ensures count { OnOk result (trail.new.count ≡ suc trail.old.count) }
-    ensures behind { OnOk result ((file.new.frame.path ≡ file.old.frame.path) × (file.new.frame.depth ≡ file.old.frame.depth)
+    ensures behind { OnOk result ((file.new.frame.path ≡ file.old.frame.path) × (file.new.frame.depth
+        ≡ file.old.frame.depth)
         × (file.new.frame.node ≡ suc file.old.frame.node)) }
 {
     trail.mark(alloc, file.place(), file.node())?;
@@ -72,7 +74,8 @@ fn include<'a, F: Files>(
     from: &OpenFile,
     header: &Header,
 ) -> Result<Option<OpenFile<'a>>, NoMemory>
-    ensures { IfOk result (λ file. (node : ℕ) → from.now.frame.node ≡ suc node → IsMet (F.skeletons files.now) command.now
+    ensures { IfOk result (λ file. (node : ℕ) → from.now.frame.node ≡ suc node
+        → IsMet (F.skeletons files.now) command.now
         (Searches (Some from.now.frame.path) (record { path = from.now.frame.path; node = node }) (from.now.frame.depth + 1) header.now)
         trail.old trail.new file) }
 {
