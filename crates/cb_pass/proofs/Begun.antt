@@ -11,7 +11,7 @@ use Rattle.cb_pass.specs.States.{Frame, Waiting, Given, Forced, Main, State}
 use Rattle.cb_pass.specs.Steps.{word_of, answered, with_note}
 use Rattle.cb_pass.specs.Files.{Files, Request, Stays, Searches, start_of, first_frame, entering, met}
 use Rattle.cb_pass.specs.inner.Trails.{Opened, Findings, state_of}
-use Rattle.cb_pass.specs.inner.Moves.{Goes, IsStep, IsMet, IsNoted, with_file}
+use Rattle.cb_pass.specs.inner.Moves.{Goes, IsMet, IsNoted, with_file}
 use Rattle.cb_pass.proofs.Moves.{step_goes}
 
 module _ (files : Files) (command : Command) (old new : Findings) (waiting : List Waiting) where

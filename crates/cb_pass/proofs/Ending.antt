@@ -1,5 +1,5 @@
 -- From the start of a pass to its end.
-use Rattle.std.proofs.Common.{◌≡◌, ℕ, Bool, true, false, List, [], ◌∷◌, refl, sym, ap, subst, ◌∙◌}
+use Rattle.std.proofs.Common.{◌≡◌, ℕ, Bool, false, List, [], refl, sym, ap, subst, ◌∙◌}
 use Rattle.std.specs.Prelude.{Option, Some, None}
 use Rattle.std.proofs.Math.Path.{fun_ext}
 use Rattle.cb_tree.specs.Skeleton.{Bone}
@@ -8,11 +8,10 @@ use Rattle.cb_pass.specs.declared.note.Note.{Note}
 use Rattle.cb_pass.specs.declared.note.NoteKind.TheVariants as note
 use Rattle.cb_pass.specs.Notes.{noted}
 use Rattle.cb_pass.specs.Reached.{is_in}
-use Rattle.cb_pass.specs.States.{State, Outcome, outcome}
+use Rattle.cb_pass.specs.States.{State, Outcome}
 use Rattle.cb_pass.specs.Files.{Files, start_of}
-use Rattle.cb_pass.specs.Passes.{first_macros, first_waiting, start_with, Leads, over, IsPass}
+use Rattle.cb_pass.specs.Passes.{first_waiting, start_with, Leads, over, IsPass}
 use Rattle.cb_pass.specs.Ends.{Kept, reached_in, end_of}
-use Rattle.cb_pass.specs.inner.Memos.{Memo}
 use Rattle.cb_pass.specs.inner.Trails.{Findings, reached_by, state_of}
 use Rattle.cb_pass.specs.inner.Moves.{Goes, IsNoted}
 use Rattle.cb_pass.specs.inner.Readings.{begun}

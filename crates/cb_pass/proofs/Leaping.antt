@@ -1,8 +1,8 @@
 -- A group that is not taken is passed over node by node to its end.
 use Rattle.std.proofs.Common.{◌≡◌, ℕ, ◌+◌, ◌-◌, Bool, true, false, List, [], ◌∷◌, ◌++◌, length, map, drop, refl, sym, ap, subst, ◌∙◌, inl, inr, arith, add-one, if◌then◌else◌}
-use Rattle.std.specs.Prelude.{Option, Some, None, ◌==◌, ◌&&◌, not}
+use Rattle.std.specs.Prelude.{Some, ◌==◌, ◌&&◌, not}
 use Rattle.std.proofs.lemmas.Bool.{ne_eqb}
-use Prim.Native.Nat.{zero, suc}
+use Prim.Native.Nat.{suc}
 use Rattle.cb_tokens.specs.declared.token.Token.{Token}
 use Rattle.cb_tree.specs.declared.node.NodeKind.{NodeKind}
 use Rattle.cb_tree.specs.declared.node.NodeKind.TheVariants.{Text, If, Ifdef, Ifndef, Elif, Else, Endif, Define, Undef, Include, Once, Error, Other}
@@ -10,7 +10,7 @@ use Rattle.cb_tree.specs.Groups.{next_turn}
 use Rattle.cb_tree.specs.Skeleton.{Bone}
 use Rattle.cb_include.specs.declared.command.Command.{Command}
 use Rattle.cb_pass.specs.declared.section.Section.{Section}
-use Rattle.cb_pass.specs.Sections.{is_live, is_before_live, entered, section_continued, section_turned}
+use Rattle.cb_pass.specs.Sections.{is_live, entered, section_continued, section_turned}
 use Rattle.cb_pass.specs.States.{Frame, State}
 use Rattle.cb_pass.specs.Steps.{is_reached, sections_behind}
 use Rattle.cb_pass.specs.Files.{Files}

@@ -1,7 +1,7 @@
 -- Steps of a pass follow one another.
-use Rattle.std.proofs.Common.{◌≡◌, Bool, true, false, List, ◌∷◌, refl, sym, subst}
+use Rattle.std.proofs.Common.{◌≡◌, false, sym, subst}
 use Rattle.cb_include.specs.declared.command.Command.{Command}
-use Rattle.cb_pass.specs.States.{Frame, State, Outcome}
+use Rattle.cb_pass.specs.States.{State}
 use Rattle.cb_pass.specs.Files.{Files}
 use Rattle.cb_pass.specs.Passes.{Leads, goes, is_over}
 use Rattle.cb_pass.specs.inner.Moves.{Goes, IsStep}

@@ -1,9 +1,8 @@
 -- The next node of a file in the tree of the file.
-use Rattle.std.proofs.Common.{◌≡◌, ℕ, ◌+◌, ◌-◌, ◌<◌, ◌≤◌, Bool, List, [], ◌∷◌, ◌++◌, length, map, drop, refl, sym, ap, subst, ◌∙◌, arith, inl, inr}
-use Rattle.std.specs.Prelude.{Option, Some, None, slice_get, ◌⊎◌, cond, true, false}
+use Rattle.std.proofs.Common.{◌≡◌, ℕ, ◌+◌, ◌-◌, ◌<◌, ◌≤◌, Bool, List, [], ◌∷◌, length, map, drop, refl, sym, ap, ◌∙◌, arith, inr}
+use Rattle.std.specs.Prelude.{Option, Some, None, slice_get, cond, true, false}
 use Rattle.std.specs.Option.{option_map}
 use Prim.Native.Nat.{zero, suc}
-use Rattle.std.proofs.lemmas.List.{drop-map, length-map, length-drop}
 use Rattle.cb_tokens.specs.declared.token.Token.{Token}
 use Rattle.cb_tree.specs.declared.node.NodeKind.{NodeKind}
 use Rattle.cb_tree.specs.Groups.{kinds_of, group_end_of, end_behind, next_turn}

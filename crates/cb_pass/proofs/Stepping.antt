@@ -1,14 +1,10 @@
 -- A step over the files that are open.
 use Rattle.std.proofs.Common.{◌≡◌, ℕ, ◌+◌, ◌<◌, false, List, [], ◌∷◌, ◌++◌, length, length-append, arith, refl, sym, ap, subst, ◌∙◌, append_assoc}
 use Rattle.std.specs.Prelude.{Option, Some, None}
-use Prim.Native.Nat.{suc}
-use Rattle.std.specs.List.{position_or_len}
-use Rattle.std.specs.Str.{bytes_eq}
 use Rattle.std.proofs.lemmas.List.{append-nil}
 use Rattle.cb_tree.specs.declared.node.NodeKind.{NodeKind}
 use Rattle.cb_include.specs.declared.command.Command.{Command}
 use Rattle.cb_include.specs.declared.header.Header.{Header}
-use Rattle.cb_pass.specs.Notes.{Place}
 use Rattle.cb_pass.specs.States.{Frame, Waiting, outcome}
 use Rattle.cb_pass.specs.Files.{Files, Searches}
 use Rattle.cb_pass.specs.Passes.{is_over, over}

@@ -1,6 +1,6 @@
 -- A node that is not reached does nothing but to its section.
 use Rattle.std.proofs.Common.{◌≡◌, ℕ, Bool, true, false, List, [], ◌∷◌, refl, sym, ap, subst, ◌∙◌, inl, inr, if◌then◌else◌}
-use Rattle.std.specs.Prelude.{◌⊎◌, ◌&&◌, ◌||◌, not, nat_le}
+use Rattle.std.specs.Prelude.{◌⊎◌, ◌&&◌, not}
 use Prim.Native.Nat.{suc}
 use Rattle.cb_tokens.specs.declared.token.Token.{Token}
 use Rattle.cb_tree.specs.declared.node.NodeKind.{NodeKind}
@@ -8,15 +8,14 @@ use Rattle.cb_tree.specs.declared.node.NodeKind.TheVariants.{Text, If, Ifdef, If
 use Rattle.cb_tree.specs.Skeleton.{Bone}
 use Rattle.cb_tree.specs.Kinds.{rest_of}
 use Rattle.cb_include.specs.declared.command.Command.{Command}
-use Rattle.cb_pass.specs.declared.limits.TheConstants.{NODE_LIMIT}
 use Rattle.cb_pass.specs.declared.section.Section.{Section}
-use Rattle.cb_pass.specs.Sections.{is_live, is_before_live, may_be_taken, entered, continued, section_continued}
+use Rattle.cb_pass.specs.Sections.{is_before_live, may_be_taken, section_continued}
 use Rattle.cb_pass.specs.Notes.{Place}
-use Rattle.cb_pass.specs.Answers.{Question, Nothing, Answer, Silent, IsAnswered}
+use Rattle.cb_pass.specs.Answers.{Question, Nothing, Silent, IsAnswered}
 use Rattle.cb_pass.specs.States.{Frame, State}
-use Rattle.cb_pass.specs.Steps.{is_reached, is_active, is_spent, question, question_of, sections_behind, holds_at, effect, place_in, moved, counted, behind, ended, turned_frame}
-use Rattle.cb_pass.specs.Files.{Files, Request, Stays, node_request, frame_request, met, stepped}
-use Rattle.cb_pass.specs.inner.Moves.{Goes, IsStep, advanced}
+use Rattle.cb_pass.specs.Steps.{is_reached, is_active, is_spent, question, question_of, sections_behind, holds_at, effect, place_in, counted, behind, ended, turned_frame}
+use Rattle.cb_pass.specs.Files.{Files, Request, Stays, node_request, frame_request, met}
+use Rattle.cb_pass.specs.inner.Moves.{Goes, IsStep}
 use Rattle.cb_pass.proofs.Moves.{step_goes}
 
 -- a kind that asks nothing and does nothing but to its section

@@ -1,5 +1,5 @@
 -- A visit of a node is a step of the pass.
-use Rattle.std.proofs.Common.{◌≡◌, ℕ, ◌+◌, ◌<◌, Bool, true, false, List, [], ◌∷◌, ◌++◌, refl, sym, ap, subst, ◌∙◌, arith, if◌then◌else◌}
+use Rattle.std.proofs.Common.{◌≡◌, ℕ, ◌<◌, Bool, true, false, List, [], ◌∷◌, refl, sym, ap, subst, ◌∙◌, if◌then◌else◌}
 use Rattle.std.specs.Prelude.{◌&&◌, ◌||◌, ◌==◌, not, nat_le, Option, Some, None}
 use Prim.Native.Nat.{suc}
 use Rattle.std.proofs.Math.Path.{fun_ext}
@@ -18,13 +18,12 @@ use Rattle.cb_pass.specs.declared.limits.TheConstants.{NODE_LIMIT}
 use Rattle.cb_pass.specs.declared.section.Section.{Section}
 use Rattle.cb_pass.specs.declared.note.NoteKind.TheVariants as note
 use Rattle.cb_pass.specs.Notes.{Place}
-use Rattle.cb_pass.specs.Macros.{Macros}
 use Rattle.cb_pass.specs.Reached.{is_in}
 use Rattle.cb_pass.specs.Answers.{Question, Nothing, Answer, Silent, Defines, Undefines, Wordless, Holds, Faulty, Names, Nameless, Long, IsAnswered}
 use Rattle.cb_pass.specs.States.{Frame, Waiting, State}
-use Rattle.cb_pass.specs.Steps.{is_reached, is_active, is_spent, question, question_of, frame_question, sections_behind, holds_at, effect, place_in, behind_node, moved, counted, with_node, with_note, behind, ended, turned_frame}
-use Rattle.cb_pass.specs.Files.{Files, Request, Stays, Searches, node_request, include_request, frame_request, met, stepped}
-use Rattle.cb_pass.specs.inner.Memos.{Memo, with_memo}
+use Rattle.cb_pass.specs.Steps.{is_reached, is_active, is_spent, question_of, frame_question, sections_behind, holds_at, effect, place_in, behind_node, moved, counted, with_node, behind, ended, turned_frame}
+use Rattle.cb_pass.specs.Files.{Files, Request, Stays, node_request, include_request, frame_request, met}
+use Rattle.cb_pass.specs.inner.Memos.{Memo}
 use Rattle.cb_pass.specs.inner.Trails.{Opened, Findings, reached_by, state_of, next_kind, next_rest}
 use Rattle.cb_pass.specs.inner.Moves.{IsStep, HasEffect, HasEffectIn, IsVisited, IsMet, IsNoted, IsReachedNext, advanced, wanted, header_in, with_file}
 use Rattle.cb_pass.proofs.Unreached.{unasked}

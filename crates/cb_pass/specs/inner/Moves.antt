@@ -1,18 +1,16 @@
 -- Steps of a pass, put together.
-use Rattle.std.specs.Prelude.{◌≡◌, ℕ, ◌+◌, ◌-◌, ◌⊎◌, Bool, true, false, if◌then◌else◌, List, [], ◌∷◌, ◌++◌, map, drop, Option, Some, None}
+use Rattle.std.specs.Prelude.{◌≡◌, ℕ, ◌+◌, ◌-◌, ◌⊎◌, Bool, true, if◌then◌else◌, List, [], ◌∷◌, ◌++◌, map, drop, Option, Some, None}
 use Rattle.cb_paths.specs.declared.language.Language.{Language}
 use Rattle.cb_tokens.specs.declared.token.Token.{Token}
 use Rattle.cb_tree.specs.declared.node.NodeKind.{NodeKind}
 use Rattle.cb_tree.specs.declared.node.NodeKind.TheVariants.{Include}
 use Rattle.cb_tree.specs.Groups.{next_turn}
-use Rattle.cb_tree.specs.Skeleton.{Bone}
 use Rattle.cb_include.specs.declared.command.Command.{Command}
 use Rattle.cb_include.specs.declared.header.Header.{Header}
 use Rattle.cb_pass.specs.declared.section.Section.{Section}
 use Rattle.cb_pass.specs.declared.note.NoteKind.{NoteKind}
 use Rattle.cb_pass.specs.Notes.{Place}
-use Rattle.cb_pass.specs.Macros.{Macros}
-use Rattle.cb_pass.specs.Answers.{Question, Nothing, Answer, Names, IsAnswered}
+use Rattle.cb_pass.specs.Answers.{Nothing, Answer, Names, IsAnswered}
 use Rattle.cb_pass.specs.States.{Frame, Waiting, State, Outcome}
 use Rattle.cb_pass.specs.Steps.{is_reached, is_active, question_of, question, frame_question, sections_behind, holds_at, effect, turned_frame, place_in, behind_node, with_note}
 use Rattle.cb_pass.specs.Files.{Files, Request, Stays, Searches, frame_request, met, stepped, found_path}

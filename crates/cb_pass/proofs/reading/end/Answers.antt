@@ -1,4 +1,4 @@
-use Rattle.std.proofs.Common.{[], ap, sym}
+use Rattle.std.proofs.Common.{[]}
 use Rattle.cb_pass.specs.declared.note.NoteKind.TheVariants as note
 use Rattle.cb_pass.proofs.Trailing.{noted_there}
 use Rattle.cb_pass.proofs.Visiting.{ends}

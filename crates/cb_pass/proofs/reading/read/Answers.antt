@@ -1,4 +1,4 @@
-use Rattle.std.proofs.Common.{◌≡◌, [], ◌∷◌, List, subst}
+use Rattle.std.proofs.Common.{[], List, subst}
 use Rattle.std.specs.Prelude.{Option, reverse}
 use Rattle.cb_tree.specs.declared.node.NodeKind.{NodeKind}
 use Rattle.cb_pass.specs.inner.Trails.{Opened, frames_of, state_of}

@@ -1,4 +1,4 @@
-use Rattle.std.proofs.Common.{◌∷◌, [], ◌-◌, List}
+use Rattle.std.proofs.Common.{◌-◌, List}
 use Prim.Native.Nat.{suc}
 use Rattle.cb_pass.specs.declared.limits.TheConstants.{NODE_LIMIT}
 use Rattle.cb_pass.specs.States.{Waiting}

@@ -1,4 +1,4 @@
-use Rattle.std.proofs.Common.{◌≡◌, List, ◌∷◌, ap, subst, sym, ◌∙◌}
+use Rattle.std.proofs.Common.{◌∷◌, ap, subst, sym, ◌∙◌}
 use Rattle.std.specs.Prelude.{Option, Some, reverse}
 use Rattle.cb_include.specs.declared.header.Header.{Header}
 use Rattle.cb_pass.specs.inner.Trails.{Opened}

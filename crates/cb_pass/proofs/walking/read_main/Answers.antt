@@ -1,4 +1,4 @@
-use Rattle.std.proofs.Common.{◌≡◌, ℕ, List, [], ◌∷◌, sym, ap, subst, ◌∙◌}
+use Rattle.std.proofs.Common.{ℕ, List, [], ◌∷◌, ap, subst, ◌∙◌}
 use Rattle.cb_tree.specs.Skeleton.{skeleton}
 use Rattle.cb_pass.specs.States.{Frame, Waiting}
 use Rattle.cb_pass.specs.Files.{first_frame}

@@ -1,4 +1,3 @@
-use Rattle.std.proofs.Common.{ap, subst, sym, List}
 use Rattle.cb_pass.specs.States.{Given}
 use Rattle.cb_pass.proofs.Beginning.{one_more}
 use Rattle.cb_pass.proofs.Begun.{given}

@@ -1,4 +1,4 @@
-use Rattle.std.proofs.Common.{◌≡◌, [], subst, sym, ◌∙◌}
+use Rattle.std.proofs.Common.{[], subst}
 use Rattle.cb_pass.specs.declared.note.NoteKind.TheVariants as note
 use Rattle.cb_pass.specs.Files.{start_of}
 use Rattle.cb_pass.specs.Passes.{first_waiting}

@@ -1,6 +1,4 @@
-use Rattle.std.proofs.Common.{◌≡◌, ◌<◌, length, ap, subst, ◌∙◌, arith}
-use Rattle.std.specs.Prelude.{Some}
-use Rattle.cb_pass.specs.States.{Frame}
+use Rattle.std.proofs.Common.{◌<◌, length, ap, ◌∙◌, arith}
 use Rattle.cb_pass.specs.inner.Trails.{Opened, next_kind}
 use Rattle.cb_pass.specs.inner.Moves.{advanced}
 use Rattle.cb_pass.proofs.Nodes.{advances, kind_within}

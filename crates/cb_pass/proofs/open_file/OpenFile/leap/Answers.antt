@@ -1,4 +1,4 @@
-use Rattle.std.proofs.Common.{◌≡◌, ◌-◌, drop, refl, subst, arith}
+use Rattle.std.proofs.Common.{◌-◌, drop, refl, subst, arith}
 use Prim.Native.Nat.{suc}
 use Rattle.cb_tree.specs.Skeleton.{skeleton}
 use Rattle.cb_pass.specs.States.{Frame}

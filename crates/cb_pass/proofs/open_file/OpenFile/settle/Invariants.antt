@@ -1,4 +1,4 @@
-use Rattle.std.proofs.Common.{◌≡◌, List, ◌∷◌, length}
+use Rattle.std.proofs.Common.{◌≡◌, ◌∷◌, length}
 use Rattle.cb_include.specs.declared.command.Command.{Command}
 use Rattle.cb_pass.specs.States.{State}
 use Rattle.cb_pass.specs.Files.{Files}

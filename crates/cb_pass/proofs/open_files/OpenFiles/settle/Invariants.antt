@@ -3,7 +3,7 @@ use Rattle.std.specs.Prelude.{reverse}
 use Rattle.cb_include.specs.declared.command.Command.{Command}
 use Rattle.cb_pass.specs.States.{Waiting}
 use Rattle.cb_pass.specs.Files.{Files}
-use Rattle.cb_pass.specs.inner.Trails.{Opened, Findings, frames_of, state_of, ArePlaced}
+use Rattle.cb_pass.specs.inner.Trails.{Findings, frames_of, state_of, ArePlaced}
 use Rattle.cb_pass.specs.inner.Moves.{Goes}
 use Rattle.cb_pass.proofs.open_files.OpenFiles.settle.Given as goal
 
