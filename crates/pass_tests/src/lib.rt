@@ -5,3 +5,5 @@
 mod files;
 #[cfg(test)]
 mod kinds;
+#[cfg(test)]
+mod passes;
