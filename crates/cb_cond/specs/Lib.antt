@@ -5,5 +5,4 @@ pub mod Integers
 pub mod Characters
 pub mod Symbols
 pub mod Faults
-pub mod Parts
 pub mod inner

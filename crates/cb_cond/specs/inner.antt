@@ -2,3 +2,4 @@
 pub mod Attempts
 pub mod Frames
 pub mod Prefixes
+pub mod Rests

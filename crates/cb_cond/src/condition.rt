@@ -1,8 +1,8 @@
 //! Whether a condition holds.
 ghost use Rattle.std.specs.Prelude.{◌≡◌, true, false};
-ghost use Rattle.cb_cond.specs.Parts.{tokens_of, left};
 ghost use Rattle.cb_cond.specs.Symbols.{symbols};
 ghost use Rattle.cb_cond.specs.Faults.{IsAnswer, IsTooWide};
+ghost use Rattle.cb_cond.specs.inner.Rests.{left};
 
 use crate::bad_condition::BadCondition;
 use crate::evaluation::meaning_of;
@@ -56,19 +56,5 @@ fn answer(rest: Rest, language: Language) -> Result<bool, BadCondition>
 pub fn value(tokens: &[Token], language: Language) -> Result<bool, BadCondition>
     ensures { IsAnswer (symbols language tokens.now) result }
 {
-    answer(Rest::of_list(tokens), language)
-}
-
-/// Whether the condition of an `#if` or `#elif` holds, of which the tokens after replacement lie in parts, one after
-/// another.
-///
-/// The answer is that of `value` for one list of the same tokens. A part may be empty, and a part may end anywhere, as
-/// within parentheses. No memory is taken.
-pub fn value_of_parts<'a>(
-    parts: &'a [&'a [Token]],
-    language: Language,
-) -> Result<bool, BadCondition>
-    ensures { IsAnswer (symbols language (tokens_of parts.now)) result }
-{
-    answer(Rest::of_parts(parts), language)
+    answer(Rest::new(tokens), language)
 }

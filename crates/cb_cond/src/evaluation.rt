@@ -1,6 +1,6 @@
 //! The meaning of a whole condition.
 ghost use Rattle.std.specs.Prelude.{length};
-ghost use Rattle.cb_cond.specs.Parts.{left};
+ghost use Rattle.cb_cond.specs.inner.Rests.{left};
 ghost use Rattle.cb_cond.specs.Symbols.{symbols};
 ghost use Rattle.cb_cond.specs.Faults.{IsTooDeep};
 ghost use Rattle.cb_cond.specs.inner.Attempts.{HasRoom, IsReadAs, IsAttempt};

@@ -19,5 +19,5 @@ mod symbols;
 mod words;
 
 pub use bad_condition::BadCondition;
-pub use condition::{value, value_of_parts};
+pub use condition::value;
 pub use laws::one_condition;

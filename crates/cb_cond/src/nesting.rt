@@ -1,7 +1,7 @@
 //! How deeply a condition is nested.
 ghost use Rattle.std.specs.Prelude.{◌≡◌, ◌+◌, ◌<◌, ◌^◌, true, false, MatchOption};
 ghost use Rattle.cb_paths.specs.declared.language.Language.{Language};
-ghost use Rattle.cb_cond.specs.Parts.{left};
+ghost use Rattle.cb_cond.specs.inner.Rests.{left};
 ghost use Rattle.cb_cond.specs.Symbols.{symbols};
 ghost use Rattle.cb_cond.specs.Faults.{IsTooDeep};
 ghost use Rattle.cb_cond.specs.inner.Attempts.{IsSpent, IsSlackBehind};

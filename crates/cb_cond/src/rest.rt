@@ -1,6 +1,6 @@
-//! Tokens that lie in parts, read one after another.
+//! Tokens that are read one after another.
 ghost use Rattle.std.specs.Prelude.{◌≡◌, ◌+◌, ◌≤◌, ◌^◌, true, [], ◌∷◌, length, MatchOption};
-ghost use Rattle.cb_cond.specs.Parts.{tokens_of, left};
+ghost use Rattle.cb_cond.specs.inner.Rests.{left};
 
 use cb_tokens::Token;
 
@@ -10,43 +10,23 @@ const SHORT: usize = 256;
 /// The tokens that are left to read.
 #[derive(Clone, Copy)]
 pub(crate) struct Rest<'a> {
-    /// What is left of the part that is read.
-    part: &'a [Token],
-    /// The parts behind it.
-    parts: &'a [&'a [Token]],
+    tokens: &'a [Token],
 }
 
 impl<'a> Rest<'a> {
     /// All of a list.
-    pub(crate) fn of_list(tokens: &'a [Token]) -> Rest<'a>
+    pub(crate) fn new(tokens: &'a [Token]) -> Rest<'a>
         ensures { left result ≡ tokens.now }
     {
-        Rest {
-            part: tokens,
-            parts: &[],
-        }
-    }
-
-    /// All of a list in parts.
-    pub(crate) fn of_parts(parts: &'a [&'a [Token]]) -> Rest<'a>
-        ensures { left result ≡ tokens_of parts.now }
-    {
-        Rest { part: &[], parts }
+        Rest { tokens }
     }
 
     /// The next token.
     pub(crate) fn next(&mut self) -> Option<&'a Token>
         ensures { MatchOption result (left self.old ≡ []) (λ token. left self.old ≡ token.now ∷ left self.new) }
     {
-        'parts: while self.part.is_empty() {
-            if self.parts.is_empty() {
-                return None;
-            }
-            self.part = self.parts[0];
-            self.parts = &self.parts[1..];
-        }
-        let (token, part) = self.part.split_first()?;
-        self.part = part;
+        let (token, behind) = self.tokens.split_first()?;
+        self.tokens = behind;
         Some(token)
     }
 
@@ -55,10 +35,6 @@ impl<'a> Rest<'a> {
         ensures short { result ≡ true → length (left self.now) ≤ SHORT }
         ensures counted { length (left self.now) + 2 ^ 64 ≤ 2 ^ 128 }
     {
-        let mut len = self.part.len();
-        'parts: for part in self.parts {
-            len = len.saturating_add(part.len());
-        }
-        len <= SHORT
+        self.tokens.len() <= SHORT
     }
 }

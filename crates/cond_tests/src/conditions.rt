@@ -1,8 +1,6 @@
 //! Conditions with the answers that the C standard's rules give.
-use crate::examples::{
-    CXX_HOLDS, FAILS, HOLDS, IN_PARTS, MALFORMED, SHIFT, TOO_WIDE, ZERO_DIVISOR,
-};
-use cb_cond::{BadCondition, one_condition, value, value_of_parts};
+use crate::examples::{CXX_HOLDS, FAILS, HOLDS, MALFORMED, SHIFT, TOO_WIDE, ZERO_DIVISOR};
+use cb_cond::{BadCondition, one_condition, value};
 use cb_paths::{Bytes, Language, NoMemory};
 use cb_tokens::{Token, TokenKind};
 use std::alloc::Global;
@@ -49,41 +47,6 @@ fn answer(
     let mut tokens = Vec::new(alloc);
     add(alloc, &mut tokens, text)?;
     Ok(value(tokens.as_slice(), language))
-}
-
-/// The answer to a condition of C in parts, of which each but the last ends at a `;`.
-fn answer_in_parts(alloc: Global, text: &str) -> Result<Result<bool, BadCondition>, NoMemory> {
-    let mut lists = Vec::new(alloc);
-    for part in text.split(';') {
-        let mut tokens = Vec::new(alloc);
-        if !part.is_empty() {
-            add(alloc, &mut tokens, part)?;
-        }
-        lists.push(tokens)?;
-    }
-    let mut parts = Vec::new(alloc);
-    for tokens in &lists {
-        parts.push(tokens.as_slice())?;
-    }
-    Ok(value_of_parts(parts.as_slice(), Language::C))
-}
-
-/// The answer to a condition of C in parts, in which a part stands so many times, and then another one.
-fn answer_to_repeated(
-    alloc: Global,
-    front: (&str, usize),
-    end: &str,
-) -> Result<Result<bool, BadCondition>, NoMemory> {
-    let mut first = Vec::new(alloc);
-    add(alloc, &mut first, front.0)?;
-    let mut last = Vec::new(alloc);
-    add(alloc, &mut last, end)?;
-    let mut parts = Vec::new(alloc);
-    for _ in 0..front.1 {
-        parts.push(first.as_slice())?;
-    }
-    parts.push(last.as_slice())?;
-    Ok(value_of_parts(parts.as_slice(), Language::C))
 }
 
 /// The answer to a condition of C in which a front, a middle and an end stand so many times.
@@ -159,32 +122,8 @@ fn faults_have_names(rt: HostRuntime) -> Result<(), Fail> {
 }
 
 #[test]
-fn parts_are_read_one_after_another(rt: HostRuntime) -> Result<(), Fail> {
-    one_condition();
-    for (text, expected) in IN_PARTS {
-        assert!(rt; answer_in_parts(rt.alloc(), text)? == expected, "{text}");
-    }
-    Ok(())
-}
-
-#[test]
-fn parts_are_as_deep_as_one_list(rt: HostRuntime) -> Result<(), Fail> {
-    for (part, times, expected) in [
-        ("(", 256, Err(BadCondition::Malformed)),
-        ("(", 257, Err(BadCondition::TooDeep)),
-        ("0 ? 0 :", 256, Ok(true)),
-        ("0 ? 0 :", 257, Err(BadCondition::TooDeep)),
-    ] {
-        assert!(rt;
-            answer_to_repeated(rt.alloc(), (part, times), "1")? == expected,
-            "{part} {times} times"
-        );
-    }
-    Ok(())
-}
-
-#[test]
 fn depth_is_limited(rt: HostRuntime) -> Result<(), Fail> {
+    one_condition();
     let too_deep = Err(BadCondition::TooDeep);
     for (front, middle, end, expected) in [
         (("(", 256), "1", (")", 256), Ok(true)),

@@ -309,23 +309,3 @@ pub(crate) const TOO_WIDE: [&str; 11] = [
     "1 << 64 + 18446744073709551616",
     "18446744073709551616 >> 64",
 ];
-
-/// Conditions of C in parts, of which each but the last ends at a `;`, and their answers.
-pub(crate) const IN_PARTS: [(&str, Result<bool, BadCondition>); 16] = [
-    ("", Err(BadCondition::Malformed)),
-    (";;", Err(BadCondition::Malformed)),
-    ("1", Ok(true)),
-    (";1", Ok(true)),
-    ("0;;", Ok(false)),
-    ("1;+;1;==;2", Ok(true)),
-    ("( 1;+ 1 );== 2", Ok(true)),
-    ("! (;;0 ) && (;1", Err(BadCondition::Malformed)),
-    ("0 ? 1;: 0 ? 2;: 3", Ok(true)),
-    ("- ~;! 0", Ok(true)),
-    ("1;1", Err(BadCondition::Malformed)),
-    ("1 /;0", Err(BadCondition::ZeroDivisor)),
-    ("1 <<;64", Err(BadCondition::Shift)),
-    ("0 && 1 /;0", Ok(false)),
-    ("1 );18446744073709551616", Err(BadCondition::TooWide)),
-    ("18446744073709551616;)", Err(BadCondition::TooWide)),
-];

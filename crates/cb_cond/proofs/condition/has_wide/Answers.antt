@@ -1,5 +1,5 @@
 use Rattle.std.proofs.Common.{◌+◌, below_more}
-use Rattle.cb_cond.specs.Parts.{left}
+use Rattle.cb_cond.specs.inner.Rests.{left}
 use Rattle.cb_cond.proofs.Position.{at-less, at-next, at-item, at-end}
 use Rattle.cb_cond.proofs.Wide.{wide-found, wide-at, narrow-all}
 use Rattle.cb_cond.proofs.condition.has_wide.Goals as goal

@@ -1,6 +1,6 @@
 use Rattle.std.proofs.Common.{◌≡◌, ℕ, ◌<◌, length, get_or}
 use Rattle.cb_cond.specs.declared.symbol.Symbol.TheVariants.{WideInteger}
-use Rattle.cb_cond.specs.Parts.{left}
+use Rattle.cb_cond.specs.inner.Rests.{left}
 use Rattle.cb_cond.specs.Symbols.{symbols}
 use Rattle.cb_cond.proofs.Position.{IsAt}
 use Rattle.cb_cond.proofs.condition.has_wide.Given as goal

@@ -1,5 +1,5 @@
 use Rattle.std.proofs.Common.{◌≡◌, ℕ, ◌≤◌, length, take, drop, Some}
-use Rattle.cb_cond.specs.Parts.{left}
+use Rattle.cb_cond.specs.inner.Rests.{left}
 use Rattle.cb_cond.specs.Symbols.{symbols}
 use Rattle.cb_cond.specs.inner.Frames.{held_of}
 use Rattle.cb_cond.proofs.Reading.{run}

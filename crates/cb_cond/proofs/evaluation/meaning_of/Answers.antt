@@ -1,4 +1,4 @@
-use Rattle.cb_cond.specs.Parts.{left}
+use Rattle.cb_cond.specs.inner.Rests.{left}
 use Rattle.cb_cond.specs.Symbols.{symbols}
 use Rattle.cb_cond.proofs.Depth.{flat-room}
 use Rattle.cb_cond.proofs.evaluation.meaning_of.Goals as goal

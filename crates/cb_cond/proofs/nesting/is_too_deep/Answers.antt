@@ -1,5 +1,5 @@
 use Rattle.std.proofs.Common.{◌+◌, refl, arith}
-use Rattle.cb_cond.specs.Parts.{left}
+use Rattle.cb_cond.specs.inner.Rests.{left}
 use Rattle.cb_cond.specs.Symbols.{symbol, symbols}
 use Rattle.cb_cond.proofs.Position.{at-less, at-next, at-item, at-end, symbol-less, symbol-at, symbols-end}
 use Rattle.cb_cond.proofs.Depth.{leaves-next, too-deep, not-deep, short-flat, slack-small}

@@ -1,6 +1,6 @@
 use Rattle.std.proofs.Common.{ℕ, ◌+◌, ◌≤◌, length}
 use Rattle.cb_paths.specs.declared.language.Language.{Language}
-use Rattle.cb_cond.specs.Parts.{left}
+use Rattle.cb_cond.specs.inner.Rests.{left}
 use Rattle.cb_cond.specs.Symbols.{symbols}
 use Rattle.cb_cond.proofs.Position.{IsAt}
 use Rattle.cb_cond.proofs.Depth.{Leaves}
