@@ -16,8 +16,8 @@ before None words = None
 before (Some word) None = None
 before (Some word) (Some words) = Some (word ∷ words)
 
--- the words of -D, each in an argument with it or in the next one, or nothing where an argument is no part of such; the word of
--- a last -D alone is empty (own)
+-- the words of -D, each in an argument with it or in the next one, or nothing where an argument is no part of such; the
+-- word of a last -D alone is empty (own)
 abbrev pub words_in : List (List ℕ) → Option (List (List ℕ))
 words_in [] = Some []
 words_in (first ∷ []) = before (joined_word first) (Some [])

@@ -82,7 +82,8 @@ fn text_of(alloc: Global, tree: &Tree, command: &Command) -> Result<Vec<u8>, NoM
 
 /// What is said of a sound source, with these words of `-D`.
 fn answer_tree(alloc: Global, words: Vec<Bytes>, tree: &Tree) -> Result<Answer, NoMemory>
-    ensures { IfOk result (λ answer. (answer.status ≡ 0) × Passes (command_of words.items) tree.now (said_bytes answer.text)) }
+    ensures { IfOk result (λ answer. (answer.status ≡ 0)
+        × Passes (command_of words.items) tree.now (said_bytes answer.text)) }
 {
     let command = command_of(alloc, words)?;
     let text = text_of(alloc, tree, &command)?;

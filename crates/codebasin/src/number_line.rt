@@ -12,8 +12,9 @@ const END: usize = 10;
 /// How many bytes a line is copied by, though it is shorter: a copy of one length takes no call.
 const COPIED: usize = 16;
 
-/// A number on a line of its own, from which those with the same digits but the last are made. Over 200,000 short lines a whole
-/// run takes 10 % less time so than where the digits of each number are made anew (`bench/specialise --shape short-text`).
+/// A number on a line of its own, from which those with the same digits but the last are made. Over 200,000 short lines
+/// a whole run takes 10 % less time so than where the digits of each number are made anew (`bench/specialise --shape
+/// short-text`).
 #[derive(Drop)]
 pub(crate) struct NumberLine {
     bytes: [u8; 32],
@@ -53,8 +54,8 @@ impl NumberLine {
         }
     }
 
-    /// Adds the line of a number that has the same digits but the last. That digit is changed in the text alone: a write
-    /// into the copied bytes would hold up the next copy.
+    /// Adds the line of a number that has the same digits but the last. That digit is changed in the text alone: a
+    /// write into the copied bytes would hold up the next copy.
     #[inline]
     pub(crate) fn add_to(&self, text: &mut Vec<u8>, number: u32) -> Result<(), NoMemory>
         requires holds { HasLine self.now.bytes self.now.start self.now.number self.now.count }

@@ -48,7 +48,8 @@ pub(crate) fn reached_text(
     passed: &Passed,
     path: &Path,
 ) -> Result<Vec<u8>, NoMemory>
-    ensures { IfOk result (λ text. text.items ≡ numbers_text (reached_lines ((end_of passed.now).reached path.now) tree.now)) }
+    ensures { IfOk result (λ text. text.items
+        ≡ numbers_text (reached_lines ((end_of passed.now).reached path.now) tree.now)) }
 {
     let row = row_of(passed, path);
     let mut text = Vec::new(alloc);

@@ -37,7 +37,8 @@ fn first_word<'a>(arguments: &'a [String]) -> Option<(&'a [u8], &'a [String])>
 /// The words of each `-D`, in one argument or in two, or nothing where an argument is no part of such.
 #[tactic(auto, using(crate::proofs::CommandWords::found_push))]
 fn words_in(alloc: Global, arguments: &[String]) -> Result<Option<Vec<Bytes>>, NoMemory>
-    ensures { IfOk result (λ words. option_map (λ found. found.items) words ≡ words_in (map string_bytes arguments.now)) }
+    ensures { IfOk result (λ words. option_map (λ found. found.items) words
+        ≡ words_in (map string_bytes arguments.now)) }
 {
     let mut words = Vec::new(alloc);
     let mut rest = arguments;
@@ -53,7 +54,8 @@ fn words_in(alloc: Global, arguments: &[String]) -> Result<Option<Vec<Bytes>>, N
 
 /// The words of each `-D` behind the command `specialise`, or nothing where the arguments are not such.
 fn words_asked(alloc: Global, arguments: &[String]) -> Result<Option<Vec<Bytes>>, NoMemory>
-    ensures { IfOk result (λ words. option_map (λ found. found.items) words ≡ words_asked (map string_bytes arguments.now)) }
+    ensures { IfOk result (λ words. option_map (λ found. found.items) words
+        ≡ words_asked (map string_bytes arguments.now)) }
 {
     let Some((first, rest)) = arguments.split_first() else {
         return Ok(None);

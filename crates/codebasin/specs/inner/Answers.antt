@@ -15,8 +15,11 @@ pub record Passes (command : Command) (nodes : List Node) (text : List ℕ) : Ty
   pub pass : IsPass (only nodes) command end
   pub text_is : text ≡ numbers_text (reached_lines (end.reached command.main) nodes)
 
--- The status and the text for a source, with these words of -D: its size decides first, then its first fault, then its pass (own).
+-- The status and the text for a source, with these words of -D: its size decides first, then its first fault, then its
+-- pass (own).
 pub data Answers (words : List (List ℕ)) (source : List ℕ) : ℕ → List ℕ → Type 0 where
   too_long : 4194304 < length source → Answers words source 3 limit_text
-  unsound : (fault : BadSource) → length source ≤ 4194304 → IsRead source (Unsound fault) → Answers words source 2 (malformed_text fault)
-  sound : (nodes : List Node) (text : List ℕ) → IsRead source (Sound nodes) → Passes (command_of words) nodes text → Answers words source 0 text
+  unsound : (fault : BadSource) → length source ≤ 4194304 → IsRead source (Unsound fault)
+      → Answers words source 2 (malformed_text fault)
+  sound : (nodes : List Node) (text : List ℕ) → IsRead source (Sound nodes)
+      → Passes (command_of words) nodes text → Answers words source 0 text
