@@ -1,16 +1,22 @@
-//! Passes as a table: the sources, what is forced, and then what is reached, looked at and noted.
-use cb_include::{Command, Dirs, Ops};
+//! Passes as a table: the sources, the options, and then what is reached, looked at and noted.
+use cb_include::{Command, Dirs, Op, Ops};
 use cb_pass::{FileMap, Meter, NoteKind, Passed, pass};
 use cb_paths::{Bytes, Dir, Language, NoMemory, Path, PathFault, Texts};
 use cb_tree::{BuildFault, build};
 use std::alloc::Global;
 use std::test::Fail;
 
-/// A pass over `m.c`.
+/// A pass over a main file.
 #[derive(Clone, Copy)]
 struct Row {
+    /// The path of the main file.
+    main: &'static [u8],
     /// The sources by their paths.
     sources: &'static [(&'static [u8], &'static [u8])],
+    /// The words of `-D`.
+    words: &'static [&'static [u8]],
+    /// The folders of `-I`.
+    folders: &'static [&'static [u8]],
     /// The texts of `-include`.
     forced: &'static [&'static [u8]],
     /// How many nodes are reached.
@@ -44,20 +50,52 @@ fn files_of(alloc: Global, row: &Row) -> Result<FileMap, NoMemory> {
     Ok(files)
 }
 
+/// Texts, one after another.
+fn texts_of(alloc: Global, texts: &[&[u8]]) -> Result<Texts, NoMemory> {
+    let mut all = Texts::new(alloc);
+    for text in texts {
+        all.push(Bytes::from_slice(alloc, text)?)?;
+    }
+    Ok(all)
+}
+
+/// The definitions of these words.
+fn ops_of(alloc: Global, words: &[&[u8]]) -> Result<Ops, NoMemory> {
+    let mut ops = Ops::new(alloc);
+    for word in words {
+        ops.push(Op::Define(Bytes::from_slice(alloc, word)?))?;
+    }
+    Ok(ops)
+}
+
+/// The folders of these texts.
+fn folders_of(alloc: Global, texts: &[&[u8]]) -> Result<Dirs, NoMemory> {
+    let mut dirs = Dirs::new(alloc);
+    for text in texts {
+        dirs.push(wanted(Dir::read(alloc, text, &Dir::top(alloc)?))?)?;
+    }
+    Ok(dirs)
+}
+
+/// The language of a main file.
+fn language_of(main: &Path) -> Language {
+    match main.language() {
+        Some(language) => language,
+        None => Language::C,
+    }
+}
+
 /// The command of a row.
 fn command_of(alloc: Global, row: &Row) -> Result<Command, NoMemory> {
-    let mut forced = Texts::new(alloc);
-    for text in row.forced {
-        forced.push(Bytes::from_slice(alloc, text)?)?;
-    }
+    let main = wanted(Path::read(alloc, row.main))?;
     Ok(Command {
-        main: wanted(Path::read(alloc, b"m.c"))?,
-        language: Language::C,
-        ops: Ops::new(alloc),
+        language: language_of(&main),
+        main,
+        ops: ops_of(alloc, row.words)?,
         work: Dir::top(alloc)?,
         quote: Dirs::new(alloc),
-        angle: Dirs::new(alloc),
-        forced,
+        angle: folders_of(alloc, row.folders)?,
+        forced: texts_of(alloc, row.forced)?,
         root: Dir::top(alloc)?,
     })
 }
@@ -105,30 +143,48 @@ fn holds(alloc: Global, row: &Row) -> Result<bool, NoMemory> {
     )
 }
 
-const ROWS: [Row; 5] = [
+/// A row without options.
+const PLAIN: Row = Row {
+    main: b"m.c",
+    sources: &[],
+    words: &[],
+    folders: &[],
+    forced: &[],
+    count: 0,
+    probes: &[b"m.c"],
+    notes: &[],
+};
+
+const ROWS: [Row; 14] = [
     Row {
         sources: &[
             (b"m.c", b"#include \"h.h\"\n#include \"h.h\"\n"),
             (b"h.h", b"#pragma once\nint x;\n"),
         ],
-        forced: &[],
         count: 4,
         probes: &[b"m.c", b"h.h"],
-        notes: &[],
+        ..PLAIN
     },
     Row {
         sources: &[(b"m.c", b"#include \"m.c\"\n")],
-        forced: &[],
         count: 201,
-        probes: &[b"m.c"],
         notes: &[(b"m.c", 1, NoteKind::TooDeep, b"")],
+        ..PLAIN
     },
     Row {
-        sources: &[],
+        sources: &[(b"m.c", b"#include \"m.c\"\n#include \"m.c\"\n")],
+        count: 1_000_000,
+        notes: &[
+            (b"m.c", 1, NoteKind::TooDeep, b""),
+            (b"m.c", 2, NoteKind::TooDeep, b""),
+            (b"m.c", 1, NoteKind::Budget, b""),
+        ],
+        ..PLAIN
+    },
+    Row {
         forced: &[b"f.h"],
-        count: 0,
-        probes: &[b"m.c"],
         notes: &[(b"m.c", 0, NoteKind::NoMain, b"")],
+        ..PLAIN
     },
     Row {
         sources: &[
@@ -142,15 +198,14 @@ const ROWS: [Row; 5] = [
             (b"m.c", 0, NoteKind::BadInclude, b""),
             (b"m.c", 0, NoteKind::Missing, b"\"g.h\""),
         ],
+        ..PLAIN
     },
     Row {
         sources: &[(
             b"m.c",
             b"#ifndef\n#include <a.h>\n#endif\n#ifndef A\n#include <a.h>\n#endif\n#undef\n#undef\n#error\n",
         )],
-        forced: &[],
         count: 8,
-        probes: &[b"m.c"],
         notes: &[
             (b"m.c", 1, NoteKind::BadCondition, b"Malformed"),
             (b"m.c", 5, NoteKind::Missing, b"<a.h>"),
@@ -158,13 +213,102 @@ const ROWS: [Row; 5] = [
             (b"m.c", 8, NoteKind::BadDefine, b""),
             (b"m.c", 9, NoteKind::ErrorReached, b""),
         ],
+        ..PLAIN
+    },
+    // the header that replaced tokens name
+    Row {
+        main: b"src/m.c",
+        sources: &[
+            (b"src/m.c", b"#define H \"x.h\"\n#include H\n"),
+            (b"src/x.h", b""),
+        ],
+        count: 2,
+        probes: &[b"src/m.c", b"src/x.h"],
+        ..PLAIN
+    },
+    // the folder of the file, and then those of -I
+    Row {
+        sources: &[(b"m.c", b"#include \"a.h\"\n"), (b"inc2/a.h", b"x;\n")],
+        folders: &[b"inc1", b"inc2"],
+        count: 2,
+        probes: &[b"m.c", b"a.h", b"inc1/a.h", b"inc2/a.h"],
+        ..PLAIN
+    },
+    // the condition of an #elif behind a taken group is not looked at
+    Row {
+        sources: &[(
+            b"m.c",
+            b"#if N\nx;\n#elif 1 / 0\n#endif\n#if N - 2\n#elif 1 / 0\n#endif\n",
+        )],
+        words: &[b"N=2"],
+        count: 7,
+        notes: &[(b"m.c", 6, NoteKind::BadCondition, b"ZeroDivisor")],
+        ..PLAIN
+    },
+    Row {
+        sources: &[(
+            b"m.c",
+            b"#if __STDC__ == 1 && __STDC_VERSION__ == 201112L && !defined __cplusplus\nx;\n#endif\n",
+        )],
+        count: 3,
+        ..PLAIN
+    },
+    Row {
+        main: b"m.cpp",
+        sources: &[(
+            b"m.cpp",
+            b"#if __cplusplus == 201703L && !defined __STDC__\nx;\n#endif\n",
+        )],
+        count: 3,
+        probes: &[b"m.cpp"],
+        ..PLAIN
+    },
+    // a definition that differs, one that does not, and a note that stands once
+    Row {
+        sources: &[
+            (
+                b"m.c",
+                b"#define A 1\n#define A 1\n#define A 2\n#include \"h.h\"\n#include \"h.h\"\n",
+            ),
+            (b"h.h", b"#error\n"),
+        ],
+        words: &[b"A", b"9"],
+        count: 7,
+        probes: &[b"m.c", b"h.h"],
+        notes: &[
+            (b"m.c", 0, NoteKind::BadDefine, b"9"),
+            (b"m.c", 3, NoteKind::Redefined, b"A"),
+            (b"h.h", 1, NoteKind::ErrorReached, b""),
+        ],
+        ..PLAIN
+    },
+    // a condition whose replacement costs too much is false
+    Row {
+        sources: &[(
+            b"m.c",
+            b"#define a x x x x x x x x\n#define b a a a a a a a a\n#define c b b b b b b b b\n#define d c c c c c c c c\n#define e d d d d d d d d\n#if e e\nx;\n#endif\n",
+        )],
+        count: 7,
+        notes: &[(b"m.c", 6, NoteKind::TooLong, b"")],
+        ..PLAIN
+    },
+    // an #include that names nothing
+    Row {
+        sources: &[(b"m.c", b"#include <>\n#include 1\n#define E\n#include E\n")],
+        count: 4,
+        notes: &[
+            (b"m.c", 1, NoteKind::BadInclude, b""),
+            (b"m.c", 2, NoteKind::BadInclude, b""),
+            (b"m.c", 4, NoteKind::BadInclude, b""),
+        ],
+        ..PLAIN
     },
 ];
 
 #[test]
 fn passes_reach_look_and_note(rt: HostRuntime) -> Result<(), Fail> {
-    for row in &ROWS {
-        assert!(rt; holds(rt.alloc(), row)?);
+    for i in 0..ROWS.len() {
+        assert!(rt; holds(rt.alloc(), &ROWS[i])?, "pass {i}");
     }
     Ok(())
 }
