@@ -1,15 +1,18 @@
 -- Bytes are a piece of one kind at most.
-use Rattle.std.proofs.Common.{◌≡◌, ℕ, ◌<◌, ◌≤◌, ◌==◌, Bool, true, false, not, cond, ◌&&◌, ◌||◌, List, [], ◌∷◌, length, get_or, drop, leb, ltb, sym, refl, ap, ◌∙◌, subst, arith, ◌⊎◌, inl, inr, ⊎_elim}
+use Rattle.std.proofs.Common.{◌≡◌, ℕ, ◌<◌, ◌≤◌, ◌==◌, Bool, true, false, not, ◌&&◌, ◌||◌, List, [], ◌∷◌, length, get_or, drop, leb, ltb, sym, refl, ap, ◌∙◌, subst, arith, ◌⊎◌, inl, inr, ⊎_elim}
 use Rattle.std.specs.List.{list_all}
 use Rattle.std.specs.Char.{is_ascii_digit}
 use Rattle.std.proofs.lemmas.Bool.{false≢true, both_ways, and_parts, or_cases, eqb-true, leb-true, ltb-true, not-true}
 use Rattle.std.proofs.lemmas.Bool.Decides.{nat_tests}
+use Rattle.cb_lines.specs.Marks.{is_line_feed}
 use Rattle.cb_tokens.specs.declared.token.TokenKind.TheVariants.{Identifier, Number, Char, Str, Punct, Other}
 use Rattle.cb_tokens.specs.declared.token.PieceKind.{PieceKind}
 use Rattle.cb_tokens.specs.declared.token.PieceKind.TheVariants.{White, Comment, LineEnd, Token}
 use Rattle.cb_tokens.specs.declared.class.Class.{Class}
 use Rattle.cb_tokens.specs.declared.class.Class.TheVariants as classes
-use Rattle.cb_tokens.specs.Forms.{is_white, is_line_feed, is_name_start, is_name_byte, is_quote, is_identifier, is_number, is_number_rest, is_quoted, closes, is_prefix_letter, is_character, is_string, is_punctuator, punctuators, is_unclosed, stays_unclosed, is_stray, begins_with, ends_comment, is_comment, fits}
+use Rattle.cb_tokens.specs.declared.left.QuoteLeft.{QuoteLeft}
+use Rattle.cb_tokens.specs.declared.left.QuoteLeft.TheVariants.{Closed, Unclosed, Broken}
+use Rattle.cb_tokens.specs.Forms.{is_white, is_name_start, is_name_byte, is_quote, is_identifier, is_number, is_number_rest, is_quoted, quote_left, is_closed, is_still_open, closes, is_prefix_letter, is_character, is_string, is_punctuator, punctuators, is_unclosed, stays_unclosed, is_stray, begins_with, ends_comment, is_comment, fits}
 use Rattle.cb_tokens.specs.inner.Classes.{class_of}
 use Rattle.cb_tokens.proofs.Punctuators.{of_punctuators}
 use Rattle.cb_tokens.proofs.Heads.{start, starts, kinds, Each, holds, each_at, head_kinds}
@@ -186,23 +189,20 @@ comment_punct l h c =
     both_ways (begins_with 47 42 l || begins_with 47 47 l) (not-true (begins_with 47 42 l || begins_with 47 47 l) (comment_table l c))
     (starts_comment (begins_with 47 42 l) (ends_comment (drop 2 l)) (begins_with 47 47 l) (list_all (λ b. not (is_line_feed b)) (drop 2 l)) h)
 
-closed_cases : (ends back plain c d s t : Bool) → cond ends false (cond back (plain && c) d) ≡ true → cond ends false (cond back (plain && s) t) ≡ true → (c ≡ true → s ≡ true → ⊥) → (d ≡ true → t ≡ true → ⊥) → ⊥
-closed_cases true back plain c d s t h i one two = false≢true h
-closed_cases false true plain c d s t h i one two = one (and_parts plain c h).1 (and_parts plain s i).1
-closed_cases false false plain c d s t h i one two = two h i
-
 no_stray : (x y z : Bool) → y ≡ true → not ((x || y) || z) ≡ true → ⊥
 no_stray true y z h s = false≢true s
 no_stray false true z h s = false≢true s
 no_stray false false z h s = false≢true h
 
+one_end : (end : QuoteLeft) → is_closed end ≡ true → is_still_open end ≡ true → ⊥
+one_end Closed h s = false≢true s
+one_end Unclosed h s = false≢true h
+one_end Broken h s = false≢true h
+
 -- a quote that is closed does not stay open
 closed_stays : (q : ℕ) (xs : List ℕ) → closes q xs ≡ true → stays_unclosed q xs ≡ true → ⊥
 unfolding closes stays_unclosed
-closed_stays q [] h s = false≢true h
-closed_stays q (b ∷ []) h s = false≢true (subst (λ v. not (v || is_line_feed b) ≡ true) h s)
-closed_stays q (b ∷ c ∷ cs) h s =
-    closed_cases ((b == q) || is_line_feed b) (b == 92) (not (is_line_feed c)) (closes q cs) (closes q (c ∷ cs)) (stays_unclosed q cs) (stays_unclosed q (c ∷ cs)) h s (closed_stays q cs) (closed_stays q (c ∷ cs))
+closed_stays q xs h s = one_end (quote_left q xs) h s
 
 quote_stray : (q : ℕ) (l : List ℕ) → is_quote q ≡ true → is_stray (q ∷ l) ≡ true → ⊥
 unfolding is_stray

@@ -10,7 +10,7 @@ use Rattle.cb_tokens.specs.declared.token.PieceKind.TheVariants.{White, LineEnd,
 use Rattle.cb_tokens.specs.declared.first.First.TheVariants as first
 use Rattle.cb_tokens.specs.declared.class.Class.{Class}
 use Rattle.cb_tokens.specs.declared.class.Class.TheVariants as classes
-use Rattle.cb_tokens.specs.Forms.{is_white, is_line_feed, is_name_start, is_name_byte, is_quote, is_identifier, is_prefix_letter, is_punctuator, punctuators, is_unclosed, stays_unclosed, is_stray, is_white_run, begins_with, is_open_comment, fits}
+use Rattle.cb_tokens.specs.Forms.{is_white, is_name_start, is_name_byte, is_quote, is_identifier, is_prefix_letter, is_punctuator, punctuators, is_unclosed, stays_unclosed, is_stray, is_white_run, begins_with, is_open_comment, fits}
 use Rattle.cb_tokens.specs.Cut.{StandsFirst}
 use Rattle.cb_tokens.specs.inner.Classes.{class_of, BeginsIn}
 use Rattle.cb_tokens.specs.inner.Scan.{IsLongest}
@@ -50,11 +50,11 @@ is_slash classes.Operator = false
 is_slash classes.Stray = false
 
 facts : agree_below (λ b. fact (class_of b) b) (λ _. true) 256 ≡ true
-unfolding fact alone class_of is_white is_line_feed is_name_start is_prefix_letter is_quote is_punctuator punctuators is_stray
+unfolding fact alone class_of is_white is_name_start is_prefix_letter is_quote is_punctuator punctuators is_stray
 facts = refl
 
 slashes : agree_below (λ b. is_slash (class_of b)) (λ b. b == 47) 256 ≡ true
-unfolding is_slash class_of is_white is_line_feed is_name_start is_prefix_letter is_quote
+unfolding is_slash class_of is_white is_name_start is_prefix_letter is_quote
 slashes = refl
 
 pub fact_of : (c : Class) (xs : List ℕ) → BeginsIn c xs → fact c (get_or xs 0 0) ≡ true

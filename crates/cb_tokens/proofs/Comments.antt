@@ -3,8 +3,9 @@ use Rattle.std.proofs.Common.{◌≡◌, ℕ, suc, zero, ◌+◌, ◌-◌, ◌<�
 use Rattle.std.proofs.lemmas.Bool.{eqb-true, and_parts, and_right, cases_lt, cond-false}
 use Rattle.std.proofs.lemmas.List.{drop_all, get_or_past}
 use Rattle.cb_tokens.specs.Forms.{begins_with, ends_comment, has_comment_end}
+use Rattle.cb_tokens.specs.Cut.{NoneLonger}
 use Rattle.cb_tokens.specs.inner.Scan.{ends_with, IsLongest, EndsComment}
-use Rattle.cb_tokens.proofs.Longest.{AreWithin, longest_on, split_at, head_at}
+use Rattle.cb_tokens.proofs.Longest.{longest_on, split_at, head_at}
 
 begins_short : (b : ℕ) (bs : List ℕ) → begins_with 42 47 (b ∷ bs) ≡ ((b == 42) && (get_or bs 0 0 == 47))
 unfolding begins_with
@@ -30,7 +31,7 @@ has_on : (b : ℕ) (bs : List ℕ) → begins_with 42 47 (b ∷ bs) ≡ false �
 unfolding has_comment_end
 has_on b bs e = rw e refl
 
-here_within : (cs : List ℕ) → AreWithin ends_comment (42 ∷ 47 ∷ cs) 2
+here_within : (cs : List ℕ) → NoneLonger ends_comment (42 ∷ 47 ∷ cs) 2
 unfolding ends_comment begins_with
 here_within cs zero le h = omega arith
 here_within cs (suc zero) le h = omega arith

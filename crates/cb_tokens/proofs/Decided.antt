@@ -13,13 +13,13 @@ use Rattle.cb_tokens.specs.declared.class.Class.{Class}
 use Rattle.cb_tokens.specs.declared.class.Class.TheVariants as classes
 use Rattle.cb_tokens.specs.declared.left.QuoteLeft.{QuoteLeft}
 use Rattle.cb_tokens.specs.declared.left.QuoteLeft.TheVariants.{Closed, Unclosed, Broken}
-use Rattle.cb_tokens.specs.Forms.{is_name_start, is_name_byte, is_quote, is_identifier, is_number, is_number_rest, is_character, is_string, is_punctuator, is_unclosed, is_stray, fits}
+use Rattle.cb_tokens.specs.Forms.{is_name_start, is_name_byte, is_quote, is_identifier, is_number, is_number_rest, quote_left, is_character, is_string, is_punctuator, is_unclosed, is_stray, fits}
 use Rattle.cb_tokens.specs.inner.Classes.{BeginsIn}
 use Rattle.cb_tokens.specs.inner.Scan.{quoted_kind}
-use Rattle.cb_tokens.specs.inner.Whole.{IsDecided, EndsAs, closed_as}
+use Rattle.cb_tokens.specs.inner.Whole.{IsDecided, closed_as}
 use Rattle.cb_tokens.proofs.Heads.{starts, kinds, Each, holds, each_at, head_kinds}
 use Rattle.cb_tokens.proofs.Arms.{fact, fact_of}
-use Rattle.cb_tokens.proofs.Quotes.{quote_cases}
+use Rattle.cb_tokens.proofs.Quotes.{quote_cases, closed_as_left, open_as_left}
 use Rattle.cb_tokens.proofs.QuoteArms.{char_char, string_char, char_string, string_string, unclosed_other, is_quote_first}
 use Rattle.cb_tokens.proofs.PrefixArms.{Letter, letter_of, char_closes, string_fails, string_closes, char_fails, no_char, no_string, u8_closes, u8_char}
 use Rattle.cb_tokens.proofs.Cutting.{no_piece}
@@ -105,23 +105,25 @@ quote_as q Closed = Some (quoted_kind q)
 quote_as q Unclosed = Some Other
 quote_as q Broken = None
 
-char_decided : (bs : List ℕ) (end : QuoteLeft) → BeginsIn classes.Quote (39 ∷ bs) → EndsAs 39 bs end → IsDecided (39 ∷ bs) (quote_as 39 end)
+char_decided : (bs : List ℕ) (end : QuoteLeft) → BeginsIn classes.Quote (39 ∷ bs) → end ≡ quote_left 39 bs → IsDecided (39 ∷ bs) (quote_as 39 end)
 unfolding fits is_quote
-char_decided bs Closed s e = char_char bs ∙ e
-char_decided bs Unclosed s e = unclosed_other 39 bs refl ∙ e.1
+char_decided bs Closed s e = char_char bs ∙ closed_as_left 39 bs Closed e
+char_decided bs Unclosed s e = unclosed_other 39 bs refl ∙ open_as_left 39 bs Unclosed e
 char_decided bs Broken s e =
-    none_of classes.Quote 39 bs s (λ j _. char_char bs ∙ e.0, (λ j _. string_char bs, (λ j _. unclosed_other 39 bs refl ∙ e.1, tt)))
+    none_of classes.Quote 39 bs s
+    (λ j _. char_char bs ∙ closed_as_left 39 bs Broken e, (λ j _. string_char bs, (λ j _. unclosed_other 39 bs refl ∙ open_as_left 39 bs Broken e, tt)))
 
-string_decided : (bs : List ℕ) (end : QuoteLeft) → BeginsIn classes.Quote (34 ∷ bs) → EndsAs 34 bs end → IsDecided (34 ∷ bs) (quote_as 34 end)
+string_decided : (bs : List ℕ) (end : QuoteLeft) → BeginsIn classes.Quote (34 ∷ bs) → end ≡ quote_left 34 bs → IsDecided (34 ∷ bs) (quote_as 34 end)
 unfolding fits is_quote
-string_decided bs Closed s e = string_string bs ∙ e
-string_decided bs Unclosed s e = unclosed_other 34 bs refl ∙ e.1
+string_decided bs Closed s e = string_string bs ∙ closed_as_left 34 bs Closed e
+string_decided bs Unclosed s e = unclosed_other 34 bs refl ∙ open_as_left 34 bs Unclosed e
 string_decided bs Broken s e =
-    none_of classes.Quote 34 bs s (λ j _. char_string bs, (λ j _. string_string bs ∙ e.0, (λ j _. unclosed_other 34 bs refl ∙ e.1, tt)))
+    none_of classes.Quote 34 bs s
+    (λ j _. char_string bs, (λ j _. string_string bs ∙ closed_as_left 34 bs Broken e, (λ j _. unclosed_other 34 bs refl ∙ open_as_left 34 bs Broken e, tt)))
 
-pub quote_decided : (b : ℕ) (bs : List ℕ) (end : QuoteLeft) → BeginsIn classes.Quote (b ∷ bs) → EndsAs b bs end → IsDecided (b ∷ bs) (quote_as b end)
+pub quote_decided : (b : ℕ) (bs : List ℕ) (end : QuoteLeft) → BeginsIn classes.Quote (b ∷ bs) → end ≡ quote_left b bs → IsDecided (b ∷ bs) (quote_as b end)
 quote_decided b bs end s e =
-    let P : ℕ → Type 0 = λ q. BeginsIn classes.Quote (q ∷ bs) → EndsAs q bs end → IsDecided (q ∷ bs) (quote_as q end) in
+    let P : ℕ → Type 0 = λ q. BeginsIn classes.Quote (q ∷ bs) → end ≡ quote_left q bs → IsDecided (q ∷ bs) (quote_as q end) in
     ⊎_elim (λ f. subst P (sym f) (char_decided bs end) s e) (λ f. subst P (sym f) (string_decided bs end) s e) (quote_cases b (is_quote_first (b ∷ bs) s))
 
 -- a point
@@ -165,21 +167,21 @@ prefix_none b bs s n c t =
 pub prefix_alone : (b : ℕ) → list_all is_name_byte [] ≡ false → IsDecided (b ∷ []) None
 prefix_alone b n = absurd (false≢true (sym n))
 
-pub prefix_char : (b : ℕ) (zs : List ℕ) (end : QuoteLeft) → BeginsIn classes.Prefix (b ∷ 39 ∷ zs) → list_all is_name_byte (39 ∷ zs) ≡ false → EndsAs 39 zs end → IsDecided (b ∷ 39 ∷ zs) (closed_as end Char)
+pub prefix_char : (b : ℕ) (zs : List ℕ) (end : QuoteLeft) → BeginsIn classes.Prefix (b ∷ 39 ∷ zs) → list_all is_name_byte (39 ∷ zs) ≡ false → end ≡ quote_left 39 zs → IsDecided (b ∷ 39 ∷ zs) (closed_as end Char)
 unfolding fits
-prefix_char b zs Closed s n e = char_closes b zs (letter_of (b ∷ 39 ∷ zs) s) ∙ e
+prefix_char b zs Closed s n e = char_closes b zs (letter_of (b ∷ 39 ∷ zs) s) ∙ closed_as_left 39 zs Closed e
 prefix_char b zs Unclosed s n e =
-    let t = letter_of (b ∷ 39 ∷ zs) s in prefix_none b (39 ∷ zs) s n (char_closes b zs t ∙ e.0) (string_fails b zs t)
+    let t = letter_of (b ∷ 39 ∷ zs) s in prefix_none b (39 ∷ zs) s n (char_closes b zs t ∙ closed_as_left 39 zs Unclosed e) (string_fails b zs t)
 prefix_char b zs Broken s n e =
-    let t = letter_of (b ∷ 39 ∷ zs) s in prefix_none b (39 ∷ zs) s n (char_closes b zs t ∙ e.0) (string_fails b zs t)
+    let t = letter_of (b ∷ 39 ∷ zs) s in prefix_none b (39 ∷ zs) s n (char_closes b zs t ∙ closed_as_left 39 zs Broken e) (string_fails b zs t)
 
-pub prefix_string : (b : ℕ) (zs : List ℕ) (end : QuoteLeft) → BeginsIn classes.Prefix (b ∷ 34 ∷ zs) → list_all is_name_byte (34 ∷ zs) ≡ false → EndsAs 34 zs end → IsDecided (b ∷ 34 ∷ zs) (closed_as end Str)
+pub prefix_string : (b : ℕ) (zs : List ℕ) (end : QuoteLeft) → BeginsIn classes.Prefix (b ∷ 34 ∷ zs) → list_all is_name_byte (34 ∷ zs) ≡ false → end ≡ quote_left 34 zs → IsDecided (b ∷ 34 ∷ zs) (closed_as end Str)
 unfolding fits
-prefix_string b zs Closed s n e = string_closes b zs (letter_of (b ∷ 34 ∷ zs) s) ∙ e
+prefix_string b zs Closed s n e = string_closes b zs (letter_of (b ∷ 34 ∷ zs) s) ∙ closed_as_left 34 zs Closed e
 prefix_string b zs Unclosed s n e =
-    let t = letter_of (b ∷ 34 ∷ zs) s in prefix_none b (34 ∷ zs) s n (char_fails b zs t) (string_closes b zs t ∙ e.0)
+    let t = letter_of (b ∷ 34 ∷ zs) s in prefix_none b (34 ∷ zs) s n (char_fails b zs t) (string_closes b zs t ∙ closed_as_left 34 zs Unclosed e)
 prefix_string b zs Broken s n e =
-    let t = letter_of (b ∷ 34 ∷ zs) s in prefix_none b (34 ∷ zs) s n (char_fails b zs t) (string_closes b zs t ∙ e.0)
+    let t = letter_of (b ∷ 34 ∷ zs) s in prefix_none b (34 ∷ zs) s n (char_fails b zs t) (string_closes b zs t ∙ closed_as_left 34 zs Broken e)
 
 -- no quote stands behind the prefix
 no_string_all : (x y : ℕ) (zs : List ℕ) → Letter x → is_quote y ≡ false → ((x == 117) && (y == 56) && (get_or zs 0 0 == 34)) ≡ false → is_string (x ∷ y ∷ zs) ≡ false
@@ -213,19 +215,19 @@ not_8 b y z h = let e = ne_eqb y 56 h in dropped (b == 117) (y == 56) (z == 34) 
 pub not_quote : (b y z : ℕ) → (z ≡ 34 → ⊥) → ((b == 117) && (y == 56) && (z == 34)) ≡ false
 not_quote b y z h = let e = ne_eqb z 34 h in last_dropped ((b == 117) && (y == 56)) (z == 34) e
 
-pub u8_decided : (zs : List ℕ) (end : QuoteLeft) → BeginsIn classes.Prefix (117 ∷ 56 ∷ 34 ∷ zs) → list_all is_name_byte (56 ∷ 34 ∷ zs) ≡ false → EndsAs 34 zs end → IsDecided (117 ∷ 56 ∷ 34 ∷ zs) (closed_as end Str)
+pub u8_decided : (zs : List ℕ) (end : QuoteLeft) → BeginsIn classes.Prefix (117 ∷ 56 ∷ 34 ∷ zs) → list_all is_name_byte (56 ∷ 34 ∷ zs) ≡ false → end ≡ quote_left 34 zs → IsDecided (117 ∷ 56 ∷ 34 ∷ zs) (closed_as end Str)
 unfolding fits
-u8_decided zs Closed s n e = u8_closes zs ∙ e
-u8_decided zs Unclosed s n e = prefix_none 117 (56 ∷ 34 ∷ zs) s n (u8_char (34 ∷ zs)) (u8_closes zs ∙ e.0)
-u8_decided zs Broken s n e = prefix_none 117 (56 ∷ 34 ∷ zs) s n (u8_char (34 ∷ zs)) (u8_closes zs ∙ e.0)
+u8_decided zs Closed s n e = u8_closes zs ∙ closed_as_left 34 zs Closed e
+u8_decided zs Unclosed s n e = prefix_none 117 (56 ∷ 34 ∷ zs) s n (u8_char (34 ∷ zs)) (u8_closes zs ∙ closed_as_left 34 zs Unclosed e)
+u8_decided zs Broken s n e = prefix_none 117 (56 ∷ 34 ∷ zs) s n (u8_char (34 ∷ zs)) (u8_closes zs ∙ closed_as_left 34 zs Broken e)
 
 -- the same, where these are the bytes
-pub prefix_char_at : (b : ℕ) (bs zs : List ℕ) (end : QuoteLeft) (r : Option TokenKind) → BeginsIn classes.Prefix (b ∷ bs) → list_all is_name_byte bs ≡ false → bs ≡ 39 ∷ zs → EndsAs 39 zs end → r ≡ closed_as end Char → IsDecided (b ∷ bs) r
+pub prefix_char_at : (b : ℕ) (bs zs : List ℕ) (end : QuoteLeft) (r : Option TokenKind) → BeginsIn classes.Prefix (b ∷ bs) → list_all is_name_byte bs ≡ false → bs ≡ 39 ∷ zs → end ≡ quote_left 39 zs → r ≡ closed_as end Char → IsDecided (b ∷ bs) r
 prefix_char_at b bs zs end r s n e h f =
     let P : List ℕ → Type 0 = λ ys. BeginsIn classes.Prefix (b ∷ ys) → list_all is_name_byte ys ≡ false → IsDecided (b ∷ ys) (closed_as end Char) in
     subst (IsDecided (b ∷ bs)) (sym f) (subst P (sym e) (λ t m. prefix_char b zs end t m h) s n)
 
-pub prefix_string_at : (b : ℕ) (bs zs : List ℕ) (end : QuoteLeft) (r : Option TokenKind) → BeginsIn classes.Prefix (b ∷ bs) → list_all is_name_byte bs ≡ false → bs ≡ 34 ∷ zs → EndsAs 34 zs end → r ≡ closed_as end Str → IsDecided (b ∷ bs) r
+pub prefix_string_at : (b : ℕ) (bs zs : List ℕ) (end : QuoteLeft) (r : Option TokenKind) → BeginsIn classes.Prefix (b ∷ bs) → list_all is_name_byte bs ≡ false → bs ≡ 34 ∷ zs → end ≡ quote_left 34 zs → r ≡ closed_as end Str → IsDecided (b ∷ bs) r
 prefix_string_at b bs zs end r s n e h f =
     let P : List ℕ → Type 0 = λ ys. BeginsIn classes.Prefix (b ∷ ys) → list_all is_name_byte ys ≡ false → IsDecided (b ∷ ys) (closed_as end Str) in
     subst (IsDecided (b ∷ bs)) (sym f) (subst P (sym e) (λ t m. prefix_string b zs end t m h) s n)
@@ -235,7 +237,7 @@ prefix_other_at b y bs zs s n e a d u =
     let P : List ℕ → Type 0 = λ ys. BeginsIn classes.Prefix (b ∷ ys) → list_all is_name_byte ys ≡ false → IsDecided (b ∷ ys) None in
     subst P (sym e) (λ t m. prefix_other b y zs t m a d u) s n
 
-pub u8_at : (b : ℕ) (bs zs : List ℕ) (end : QuoteLeft) (r : Option TokenKind) → BeginsIn classes.Prefix (b ∷ bs) → list_all is_name_byte bs ≡ false → b ≡ 117 → bs ≡ 56 ∷ 34 ∷ zs → EndsAs 34 zs end → r ≡ closed_as end Str → IsDecided (b ∷ bs) r
+pub u8_at : (b : ℕ) (bs zs : List ℕ) (end : QuoteLeft) (r : Option TokenKind) → BeginsIn classes.Prefix (b ∷ bs) → list_all is_name_byte bs ≡ false → b ≡ 117 → bs ≡ 56 ∷ 34 ∷ zs → end ≡ quote_left 34 zs → r ≡ closed_as end Str → IsDecided (b ∷ bs) r
 u8_at b bs zs end r s n u e h f =
     let P : ℕ → List ℕ → Type 0 = λ v ys. BeginsIn classes.Prefix (v ∷ ys) → list_all is_name_byte ys ≡ false → IsDecided (v ∷ ys) (closed_as end Str) in
     subst (IsDecided (b ∷ bs)) (sym f) (subst (λ v. P v bs) (sym u) (subst (P 117) (sym e) (λ t m. u8_decided zs end t m h)) s n)

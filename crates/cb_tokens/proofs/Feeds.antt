@@ -4,13 +4,15 @@ use Rattle.std.specs.List.{list_all}
 use Rattle.std.specs.Char.{is_ascii_digit}
 use Rattle.std.proofs.lemmas.Bool.{false≢true, and_parts, and_from, or_cases, or_parts, eqb-true, not-true, cases_lt}
 use Rattle.std.proofs.lemmas.Slice.Eq.{bytes_eq-Decides}
+use Rattle.cb_lines.specs.Marks.{is_line_feed}
 use Rattle.cb_tokens.specs.declared.token.TokenKind.{TokenKind}
 use Rattle.cb_tokens.specs.declared.token.TokenKind.TheVariants.{Identifier, Number, Char, Str, Punct, Other}
 use Rattle.cb_tokens.specs.declared.token.PieceKind.TheVariants.{White, LineEnd, Token}
 use Rattle.cb_tokens.specs.declared.first.First.TheVariants as first
-use Rattle.cb_tokens.specs.Forms.{is_white, is_line_feed, is_white_run, is_name_start, is_quote, is_prefix_letter, is_punctuator, is_quoted, closes, is_character, is_string, stays_unclosed, is_unclosed, is_stray, fits}
+use Rattle.cb_tokens.specs.Forms.{is_white, is_white_run, is_name_start, is_quote, is_prefix_letter, is_punctuator, is_quoted, closes, is_character, is_string, stays_unclosed, is_unclosed, is_stray, fits}
 use Rattle.cb_tokens.specs.Cut.{StandsFirst}
 use Rattle.cb_tokens.specs.inner.Breaks.{IsTokenAt}
+use Rattle.cb_tokens.proofs.Quotes.{none_closes, closes_one, closes_by_steps, stays_one, stays_by_steps}
 use Rattle.cb_tokens.proofs.Stretches.{taken_at, is_solid, identifier_solid, number_solid, punctuator_solid, prefix_solid, white_no_feed_byte}
 
 -- no LF
@@ -22,7 +24,7 @@ unfolding is_solid goes_on
 solid_goes_on b h = ap not (or_parts (is_white b) (is_line_feed b) (not-true (is_white b || is_line_feed b) h)).1
 
 no_feed : (b : ℕ) → goes_on b ≡ true → (b == 10) ≡ false
-unfolding goes_on is_line_feed
+unfolding goes_on
 no_feed b h = not-true (b == 10) h
 
 branch : (x y l m : Bool) → cond x false (cond y l m) ≡ true → (x ≡ false) × ((l ≡ true) ⊎ (m ≡ true))
@@ -36,20 +38,20 @@ unquoted b q h = ap not (or_parts (b == q) (is_line_feed b) h).1
 
 -- behind a quote
 closing : (q : ℕ) (l : List ℕ) → goes_on q ≡ true → closes q l ≡ true → list_all goes_on l ≡ true
-unfolding closes goes_on
-closing q [] g h = absurd (false≢true h)
-closing q (b ∷ []) g h = and_from (goes_on b) true (ap goes_on (eqb-true b q h) ∙ g) refl
+unfolding goes_on
+closing q [] g h = absurd (false≢true (sym (none_closes q) ∙ h))
+closing q (b ∷ []) g h = and_from (goes_on b) true (ap goes_on (eqb-true b q (sym (closes_one q b) ∙ h)) ∙ g) refl
 closing q (b ∷ c ∷ cs) g h =
-    let s = branch ((b == q) || is_line_feed b) (b == 92) (not (is_line_feed c) && closes q cs) (closes q (c ∷ cs)) h in
+    let s = branch ((b == q) || is_line_feed b) (b == 92) (not (is_line_feed c) && closes q cs) (closes q (c ∷ cs)) (sym (closes_by_steps q b c cs) ∙ h) in
     and_from (goes_on b) (list_all goes_on (c ∷ cs)) (unquoted b q s.0)
     (⊎_elim (λ e. let p = and_parts (not (is_line_feed c)) (closes q cs) e in and_from (goes_on c) (list_all goes_on cs) p.0 (closing q cs g p.1)) (λ e. closing q (c ∷ cs) g e) s.1)
 
 staying : (q : ℕ) (l : List ℕ) → stays_unclosed q l ≡ true → list_all goes_on l ≡ true
-unfolding stays_unclosed goes_on
+unfolding goes_on
 staying q [] h = refl
-staying q (b ∷ []) h = and_from (goes_on b) true (unquoted b q (not-true ((b == q) || is_line_feed b) h)) refl
+staying q (b ∷ []) h = and_from (goes_on b) true (unquoted b q (not-true ((b == q) || is_line_feed b) (sym (stays_one q b) ∙ h))) refl
 staying q (b ∷ c ∷ cs) h =
-    let s = branch ((b == q) || is_line_feed b) (b == 92) (not (is_line_feed c) && stays_unclosed q cs) (stays_unclosed q (c ∷ cs)) h in
+    let s = branch ((b == q) || is_line_feed b) (b == 92) (not (is_line_feed c) && stays_unclosed q cs) (stays_unclosed q (c ∷ cs)) (sym (stays_by_steps q b c cs) ∙ h) in
     and_from (goes_on b) (list_all goes_on (c ∷ cs)) (unquoted b q s.0)
     (⊎_elim (λ e. let p = and_parts (not (is_line_feed c)) (stays_unclosed q cs) e in and_from (goes_on c) (list_all goes_on cs) p.0 (staying q cs p.1)) (λ e. staying q (c ∷ cs) e) s.1)
 
@@ -67,19 +69,19 @@ behind_letter q (b ∷ bs) g h =
     and_from (goes_on b) (list_all goes_on bs) (solid_goes_on b (prefix_solid b p.0)) (quoted q bs g p.1)
 
 u_goes_on : goes_on 117 ≡ true
-unfolding goes_on is_line_feed
+unfolding goes_on
 u_goes_on = refl
 
 eight_goes_on : goes_on 56 ≡ true
-unfolding goes_on is_line_feed
+unfolding goes_on
 eight_goes_on = refl
 
 quote_39 : goes_on 39 ≡ true
-unfolding goes_on is_line_feed
+unfolding goes_on
 quote_39 = refl
 
 quote_34 : goes_on 34 ≡ true
-unfolding goes_on is_line_feed
+unfolding goes_on
 quote_34 = refl
 
 behind_u8 : (l : List ℕ) → ((get_or l 0 0 == 117) && (get_or l 1 0 == 56) && is_quoted 34 (drop 2 l)) ≡ true → list_all goes_on l ≡ true

@@ -4,13 +4,14 @@ use Rattle.std.specs.List.{list_all, list_any}
 use Rattle.std.specs.Char.{is_ascii_digit}
 use Rattle.std.proofs.lemmas.Bool.{false≢true, and_parts, or_cases, or_left, or_right, eqb-true, agree_below, agree_below_at}
 use Rattle.std.proofs.lemmas.Slice.Eq.{bytes_eq-Decides}
+use Rattle.cb_lines.specs.Marks.{is_line_feed}
 use Rattle.cb_tokens.specs.declared.token.TokenKind.TheVariants.{Identifier, Number, Char, Str, Punct, Other}
 use Rattle.cb_tokens.specs.declared.token.PieceKind.{PieceKind}
 use Rattle.cb_tokens.specs.declared.token.PieceKind.TheVariants.{White, Comment, LineEnd, Token}
 use Rattle.cb_tokens.specs.declared.first.First.TheVariants as first
 use Rattle.cb_tokens.specs.declared.class.Class.{Class}
 use Rattle.cb_tokens.specs.declared.class.Class.TheVariants as classes
-use Rattle.cb_tokens.specs.Forms.{is_white, is_line_feed, is_name_start, is_name_byte, is_quote, is_identifier, is_number, is_number_rest, is_quoted, closes, is_prefix_letter, is_character, is_string, is_punctuator, punctuators, is_unclosed, stays_unclosed, is_stray, is_white_run, begins_with, ends_comment, is_comment, is_open_comment, fits}
+use Rattle.cb_tokens.specs.Forms.{is_white, is_name_start, is_name_byte, is_quote, is_identifier, is_number, is_number_rest, is_quoted, closes, is_prefix_letter, is_character, is_string, is_punctuator, punctuators, is_unclosed, stays_unclosed, is_stray, is_white_run, begins_with, ends_comment, is_comment, is_open_comment, fits}
 use Rattle.cb_tokens.specs.Cut.{StandsFirst}
 use Rattle.cb_tokens.specs.inner.Classes.{class_of, BeginsIn}
 use Rattle.cb_tokens.proofs.Punctuators.{of_punctuators}
@@ -137,7 +138,7 @@ test : PieceKind → ℕ → Bool
 test k b = not (start k b) || holds k (kinds (class_of b))
 
 table : (k : PieceKind) → agree_below (test k) (λ _. true) 256 ≡ true
-unfolding test start holds code class_of is_white is_line_feed is_name_start is_prefix_letter is_quote is_punctuator punctuators is_stray
+unfolding test start holds code class_of is_white is_name_start is_prefix_letter is_quote is_punctuator punctuators is_stray
 table White = refl
 table Comment = refl
 table LineEnd = refl

@@ -1,14 +1,11 @@
 -- The longest prefix of a form, one byte further on.
-use Rattle.std.proofs.Common.{◌≡◌, ℕ, suc, zero, ◌+◌, ◌<◌, ◌≤◌, Bool, true, false, List, [], ◌∷◌, length, get_or, take, drop, sym, ◌∙◌, subst, arith, get_or-drop}
+use Rattle.std.proofs.Common.{◌≡◌, ℕ, suc, zero, ◌+◌, ◌<◌, ◌≤◌, Bool, false, List, [], ◌∷◌, length, get_or, take, drop, sym, ◌∙◌, subst, arith, get_or-drop}
 use Rattle.std.proofs.lemmas.List.{drop_more}
+use Rattle.cb_tokens.specs.Cut.{NoneLonger}
 use Rattle.cb_tokens.specs.inner.Scan.{IsLongest, HasNone}
 
--- each prefix is no longer than n
-abbrev pub AreWithin : (List ℕ → Bool) → List ℕ → ℕ → Type 0
-AreWithin f xs n = (m : ℕ) → m ≤ length xs → f (take m xs) ≡ true → m ≤ n
-
 module _ (f g : List ℕ → Bool) (b : ℕ) (bs : List ℕ) (goes : (m : ℕ) → f (b ∷ take m bs) ≡ g (take m bs)) where
-  pub within_on : (r : ℕ) → AreWithin g bs r → AreWithin f (b ∷ bs) (suc r)
+  pub within_on : (r : ℕ) → NoneLonger g bs r → NoneLonger f (b ∷ bs) (suc r)
   within_on r w zero le h = omega arith
   within_on r w (suc m) le h = let k : m ≤ r = w m (omega arith) (sym (goes m) ∙ h) in omega arith
 
@@ -25,7 +22,7 @@ module _ (f g : List ℕ → Bool) (b : ℕ) (bs : List ℕ) (goes : (m : ℕ) �
 
 -- the same over two bytes
 module _ (f g : List ℕ → Bool) (b c : ℕ) (cs : List ℕ) (goes : (m : ℕ) → f (b ∷ c ∷ take m cs) ≡ g (take m cs)) where
-  pub within_over : (r : ℕ) → AreWithin g cs r → AreWithin f (b ∷ c ∷ cs) (suc (suc r))
+  pub within_over : (r : ℕ) → NoneLonger g cs r → NoneLonger f (b ∷ c ∷ cs) (suc (suc r))
   within_over r w zero le h = omega arith
   within_over r w (suc zero) le h = omega arith
   within_over r w (suc (suc m)) le h = let k : m ≤ r = w m (omega arith) (sym (goes m) ∙ h) in omega arith

@@ -4,11 +4,12 @@ use Rattle.std.specs.Char.{is_ascii_digit}
 use Rattle.std.proofs.lemmas.Bool.{false≢true}
 use Rattle.std.proofs.lemmas.List.{take_all}
 use Rattle.cb_lines.specs.declared.mark.Mark.{Mark}
-use Rattle.cb_lines.specs.Marks.{bytes_of}
-use Rattle.cb_tokens.specs.Forms.{is_quote, is_line_feed, is_punctuator, continues_number, is_number_rest, closes, stays_unclosed}
+use Rattle.cb_lines.specs.Marks.{bytes_of, is_line_feed}
+use Rattle.cb_tokens.specs.Forms.{is_quote, is_punctuator, continues_number, is_number_rest, quote_left}
+use Rattle.cb_tokens.specs.declared.left.QuoteLeft.TheVariants.{Closed, Unclosed, Broken}
 use Rattle.cb_tokens.specs.inner.Whole.{byte_of}
 use Rattle.cb_tokens.proofs.Punctuators.{too_long}
-use Rattle.cb_tokens.proofs.Quotes.{Plain, plain_of, for_quote, closes_on, stays_on, closes_over, stays_over, feed_closes, feed_stays}
+use Rattle.cb_tokens.proofs.Quotes.{Plain, plain_of, for_quote, left_on, left_over, feed_left}
 
 -- the next mark before the others
 abbrev pub with_next : Option Mark → List Mark → List Mark
@@ -25,7 +26,7 @@ NumberSame before last all next left = is_number_rest before (bytes_of all) ≡ 
 
 -- a quote ends as what is left of it does
 abbrev pub QuoteSame : ℕ → List Mark → List Mark → Type 0
-QuoteSame q all left = (closes q (bytes_of all) ≡ closes q (bytes_of left)) × (stays_unclosed q (bytes_of all) ≡ stays_unclosed q (bytes_of left))
+QuoteSame q all left = quote_left q (bytes_of all) ≡ quote_left q (bytes_of left)
 
 pub number_turn : (before last : ℕ) (all : List Mark) (next : Option Mark) (left : List Mark) (m : Mark) (after : Option Mark) (new : List Mark) → NumberSame before last all next left → next ≡ Some m → MatchOption after (left ≡ []) (λ a. left ≡ a ∷ new)
     → continues_number last m.byte (byte_of after) ≡ true → NumberSame before m.byte all after new
@@ -52,79 +53,75 @@ number_begin before all None new h = ap (λ ns. is_number_rest before (bytes_of 
 number_begin before all (Some a) new h = ap (λ ns. is_number_rest before (bytes_of ns)) h
 
 -- a quote
-closes_all : (q b : ℕ) (xs : List ℕ) → is_quote q ≡ true → Plain q b xs → closes q (b ∷ xs) ≡ closes q xs
-closes_all q b xs quote p =
-    subst (λ ys. closes q (b ∷ ys) ≡ closes q ys) (take_all (length xs) xs (omega arith)) (closes_on q b xs quote p (length xs))
+left_all : (q b : ℕ) (xs : List ℕ) → is_quote q ≡ true → Plain q b xs → quote_left q (b ∷ xs) ≡ quote_left q xs
+left_all q b xs quote p =
+    subst (λ ys. quote_left q (b ∷ ys) ≡ quote_left q ys) (take_all (length xs) xs (omega arith)) (left_on q b xs quote p (length xs))
 
-stays_all : (q b : ℕ) (xs : List ℕ) → Plain q b xs → stays_unclosed q (b ∷ xs) ≡ stays_unclosed q xs
-stays_all q b xs p =
-    subst (λ ys. stays_unclosed q (b ∷ ys) ≡ stays_unclosed q ys) (take_all (length xs) xs (omega arith)) (stays_on q b xs p (length xs))
+left_two : (q c : ℕ) (xs : List ℕ) → is_quote q ≡ true → is_line_feed c ≡ false → quote_left q (92 ∷ c ∷ xs) ≡ quote_left q xs
+left_two q c xs quote f =
+    subst (λ ys. quote_left q (92 ∷ c ∷ ys) ≡ quote_left q ys) (take_all (length xs) xs (omega arith)) (left_over q c xs quote f (length xs))
 
-closes_two : (q c : ℕ) (xs : List ℕ) → is_quote q ≡ true → is_line_feed c ≡ false → closes q (92 ∷ c ∷ xs) ≡ closes q xs
-closes_two q c xs quote f =
-    subst (λ ys. closes q (92 ∷ c ∷ ys) ≡ closes q ys) (take_all (length xs) xs (omega arith)) (closes_over q c xs quote f (length xs))
-
-stays_two : (q c : ℕ) (xs : List ℕ) → is_quote q ≡ true → is_line_feed c ≡ false → stays_unclosed q (92 ∷ c ∷ xs) ≡ stays_unclosed q xs
-stays_two q c xs quote f =
-    subst (λ ys. stays_unclosed q (92 ∷ c ∷ ys) ≡ stays_unclosed q ys) (take_all (length xs) xs (omega arith)) (stays_over q c xs quote f (length xs))
-
--- the tests of all the marks at the marks that are left
+-- all the marks at the marks that are left
 at_left : (q : ℕ) (all left new : List Mark) → QuoteSame q all left → left ≡ new → QuoteSame q all new
-at_left q all left new same e = (same.0 ∙ ap (λ ns. closes q (bytes_of ns)) e, same.1 ∙ ap (λ ns. stays_unclosed q (bytes_of ns)) e)
+at_left q all left new same e = same ∙ ap (λ ns. quote_left q (bytes_of ns)) e
 
-pub quote_plain : (q : ℕ) (all left : List Mark) (m : Mark) (new : List Mark) → is_quote q ≡ true → QuoteSame q all left → left ≡ m ∷ new → (m.byte == q) ≡ false → is_line_feed m.byte ≡ false → (m.byte == 92) ≡ false → QuoteSame q all new
+pub quote_plain : (q : ℕ) (all left : List Mark) (m : Mark) (new : List Mark) → is_quote q ≡ true → QuoteSame q all left → left ≡ m ∷ new
+    → (m.byte == q) ≡ false → is_line_feed m.byte ≡ false → (m.byte == 92) ≡ false → QuoteSame q all new
 quote_plain q all left m new quote same e other stays h =
-    let s = at_left q all left (m ∷ new) same e in
-    let p = plain_of q m.byte (bytes_of new) other stays h in
-    (s.0 ∙ closes_all q m.byte (bytes_of new) quote p, s.1 ∙ stays_all q m.byte (bytes_of new) p)
+    at_left q all left (m ∷ new) same e ∙ left_all q m.byte (bytes_of new) quote (plain_of q m.byte (bytes_of new) other stays h)
 
-pub quote_escape : (q : ℕ) (all left : List Mark) (m : Mark) (mid : List Mark) (c : Mark) (new : List Mark) → is_quote q ≡ true → QuoteSame q all left → left ≡ m ∷ mid → m.byte ≡ 92 → mid ≡ c ∷ new → is_line_feed c.byte ≡ false → QuoteSame q all new
+pub quote_escape : (q : ℕ) (all left : List Mark) (m : Mark) (mid : List Mark) (c : Mark) (new : List Mark) → is_quote q ≡ true → QuoteSame q all left
+    → left ≡ m ∷ mid → m.byte ≡ 92 → mid ≡ c ∷ new → is_line_feed c.byte ≡ false → QuoteSame q all new
 quote_escape q all left m mid c new quote same e b f stays =
-    let s = at_left q all left (m ∷ c ∷ new) same (e ∙ ap (λ ns. m ∷ ns) f) in (
-      s.0 ∙ ap (λ v. closes q (v ∷ c.byte ∷ bytes_of new)) b ∙ closes_two q c.byte (bytes_of new) quote stays,
-      s.1 ∙ ap (λ v. stays_unclosed q (v ∷ c.byte ∷ bytes_of new)) b ∙ stays_two q c.byte (bytes_of new) quote stays,
+    at_left q all left (m ∷ c ∷ new) same (e ∙ ap (λ ns. m ∷ ns) f)
+    ∙ (ap (λ v. quote_left q (v ∷ c.byte ∷ bytes_of new)) b ∙ left_two q c.byte (bytes_of new) quote stays)
+
+pub quote_closed : (q : ℕ) (all left : List Mark) (m : Mark) (new : List Mark) → QuoteSame q all left → left ≡ m ∷ new → m.byte ≡ q → new ≡ []
+    → Closed ≡ quote_left q (bytes_of all)
+unfolding quote_left
+quote_closed q all left m new same e b f =
+    let h = eq-eqb m.byte q b in
+    let ends : quote_left q (m.byte ∷ []) ≡ Closed = rw h refl in
+    sym (at_left q all left (m ∷ []) same (e ∙ ap (λ ns. m ∷ ns) f) ∙ ends)
+
+pub quote_behind : (q : ℕ) (all left : List Mark) (m : Mark) (new : List Mark) (c : Mark) (more : List Mark) → QuoteSame q all left → left ≡ m ∷ new
+    → m.byte ≡ q → new ≡ c ∷ more → Broken ≡ quote_left q (bytes_of all)
+unfolding quote_left
+quote_behind q all left m new c more same e b f =
+    let h = eq-eqb m.byte q b in
+    let breaks : quote_left q (m.byte ∷ c.byte ∷ bytes_of more) ≡ Broken = rw h refl in
+    sym (at_left q all left (m ∷ c ∷ more) same (e ∙ ap (λ ns. m ∷ ns) f) ∙ breaks)
+
+pub quote_feed : (q : ℕ) (all left : List Mark) (m : Mark) (new : List Mark) → is_quote q ≡ true → QuoteSame q all left → left ≡ m ∷ new
+    → is_line_feed m.byte ≡ true → Broken ≡ quote_left q (bytes_of all)
+quote_feed q all left m new quote same e h =
+    sym (at_left q all left (m ∷ new) same e ∙ feed_left q m.byte (bytes_of new) quote h)
+
+slash_alone : (q : ℕ) → is_quote q ≡ true → quote_left q (92 ∷ []) ≡ Unclosed
+unfolding quote_left
+slash_alone q quote = for_quote (λ q. quote_left q (92 ∷ []) ≡ Unclosed) q quote refl refl
+
+pub quote_slash : (q : ℕ) (all left : List Mark) (m : Mark) (new : List Mark) → is_quote q ≡ true → QuoteSame q all left → left ≡ m ∷ new
+    → m.byte ≡ 92 → new ≡ [] → Unclosed ≡ quote_left q (bytes_of all)
+quote_slash q all left m new quote same e b f =
+    sym (at_left q all left (m ∷ []) same (e ∙ ap (λ ns. m ∷ ns) f) ∙ (ap (λ v. quote_left q (v ∷ [])) b ∙ slash_alone q quote))
+
+slash_feed : (q c : ℕ) (xs : List ℕ) → is_quote q ≡ true → is_line_feed c ≡ true → quote_left q (92 ∷ c ∷ xs) ≡ Broken
+unfolding quote_left
+slash_feed q c xs quote h =
+    for_quote (λ q. quote_left q (92 ∷ c ∷ xs) ≡ Broken) q quote (rw h refl) (rw h refl)
+
+pub quote_slash_feed : (q : ℕ) (all left : List Mark) (m : Mark) (mid : List Mark) (c : Mark) (new : List Mark) → is_quote q ≡ true → QuoteSame q all left
+    → left ≡ m ∷ mid → m.byte ≡ 92 → mid ≡ c ∷ new → is_line_feed c.byte ≡ true → Broken ≡ quote_left q (bytes_of all)
+quote_slash_feed q all left m mid c new quote same e b f h =
+    sym (
+    at_left q all left (m ∷ c ∷ new) same (e ∙ ap (λ ns. m ∷ ns) f)
+    ∙ (ap (λ v. quote_left q (v ∷ c.byte ∷ bytes_of new)) b ∙ slash_feed q c.byte (bytes_of new) quote h)
     )
 
-pub quote_closed : (q : ℕ) (all left : List Mark) (m : Mark) (new : List Mark) → QuoteSame q all left → left ≡ m ∷ new → m.byte ≡ q → new ≡ [] → closes q (bytes_of all) ≡ true
-unfolding closes
-quote_closed q all left m new same e b f =
-    (at_left q all left (m ∷ []) same (e ∙ ap (λ ns. m ∷ ns) f)).0 ∙ eq-eqb m.byte q b
-
-pub quote_behind : (q : ℕ) (all left : List Mark) (m : Mark) (new : List Mark) (c : Mark) (more : List Mark) → QuoteSame q all left → left ≡ m ∷ new → m.byte ≡ q → new ≡ c ∷ more → (closes q (bytes_of all) ≡ false) × (stays_unclosed q (bytes_of all) ≡ false)
-unfolding closes stays_unclosed
-quote_behind q all left m new c more same e b f =
-    let s = at_left q all left (m ∷ c ∷ more) same (e ∙ ap (λ ns. m ∷ ns) f) in
-    let h = eq-eqb m.byte q b in
-    (s.0 ∙ rw h refl, s.1 ∙ rw h refl)
-
-pub quote_feed : (q : ℕ) (all left : List Mark) (m : Mark) (new : List Mark) → is_quote q ≡ true → QuoteSame q all left → left ≡ m ∷ new → is_line_feed m.byte ≡ true → (closes q (bytes_of all) ≡ false) × (stays_unclosed q (bytes_of all) ≡ false)
-quote_feed q all left m new quote same e h =
-    let s = at_left q all left (m ∷ new) same e in
-    (s.0 ∙ feed_closes q m.byte (bytes_of new) quote h, s.1 ∙ feed_stays q m.byte (bytes_of new) h)
-
-slash_alone : (q : ℕ) → is_quote q ≡ true → (closes q (92 ∷ []) ≡ false) × (stays_unclosed q (92 ∷ []) ≡ true)
-unfolding closes stays_unclosed is_line_feed
-slash_alone q quote = for_quote (λ q. (closes q (92 ∷ []) ≡ false) × (stays_unclosed q (92 ∷ []) ≡ true)) q quote (refl, refl) (refl, refl)
-
-pub quote_slash : (q : ℕ) (all left : List Mark) (m : Mark) (new : List Mark) → is_quote q ≡ true → QuoteSame q all left → left ≡ m ∷ new → m.byte ≡ 92 → new ≡ [] → (closes q (bytes_of all) ≡ false) × (stays_unclosed q (bytes_of all) ≡ true)
-quote_slash q all left m new quote same e b f =
-    let s = at_left q all left (m ∷ []) same (e ∙ ap (λ ns. m ∷ ns) f) in
-    (s.0 ∙ ap (λ v. closes q (v ∷ [])) b ∙ (slash_alone q quote).0, s.1 ∙ ap (λ v. stays_unclosed q (v ∷ [])) b ∙ (slash_alone q quote).1)
-
-slash_feed : (q c : ℕ) (xs : List ℕ) → is_quote q ≡ true → is_line_feed c ≡ true → (closes q (92 ∷ c ∷ xs) ≡ false) × (stays_unclosed q (92 ∷ c ∷ xs) ≡ false)
-unfolding closes stays_unclosed is_line_feed
-slash_feed q c xs quote h =
-    for_quote (λ q. (closes q (92 ∷ c ∷ xs) ≡ false) × (stays_unclosed q (92 ∷ c ∷ xs) ≡ false)) q quote (rw h refl, rw h refl) (rw h refl, rw h refl)
-
-pub quote_slash_feed : (q : ℕ) (all left : List Mark) (m : Mark) (mid : List Mark) (c : Mark) (new : List Mark) → is_quote q ≡ true → QuoteSame q all left → left ≡ m ∷ mid → m.byte ≡ 92 → mid ≡ c ∷ new → is_line_feed c.byte ≡ true → (closes q (bytes_of all) ≡ false) × (stays_unclosed q (bytes_of all) ≡ false)
-quote_slash_feed q all left m mid c new quote same e b f h =
-    let s = at_left q all left (m ∷ c ∷ new) same (e ∙ ap (λ ns. m ∷ ns) f) in
-    let t = slash_feed q c.byte (bytes_of new) quote h in
-    (s.0 ∙ ap (λ v. closes q (v ∷ c.byte ∷ bytes_of new)) b ∙ t.0, s.1 ∙ ap (λ v. stays_unclosed q (v ∷ c.byte ∷ bytes_of new)) b ∙ t.1)
-
-pub quote_done : (q : ℕ) (all left : List Mark) → QuoteSame q all left → left ≡ [] → (closes q (bytes_of all) ≡ false) × (stays_unclosed q (bytes_of all) ≡ true)
-unfolding closes stays_unclosed
-quote_done q all left same e = at_left q all left [] same e
+pub quote_done : (q : ℕ) (all left : List Mark) → QuoteSame q all left → left ≡ [] → Unclosed ≡ quote_left q (bytes_of all)
+unfolding quote_left
+quote_done q all left same e = sym (at_left q all left [] same e)
 
 -- what a look at the next mark says
 pub none_next : (o : Option Mark) (old new : List Mark) → MatchOption o (old ≡ []) (λ a. old ≡ a ∷ new) → is_some o ≡ false → old ≡ []

@@ -7,7 +7,7 @@ use Rattle.std.proofs.lemmas.List.{length-map}
 use Rattle.std.proofs.lemmas.List.{get_or-map as get_or-map_at}
 use Rattle.std.proofs.lemmas.Simd.{bit_mask_l, tops_compared, mask_l-mod}
 use Rattle.std.proofs.lemmas.Nat.Bits.{bit_at_or, bit_at_and, bit_at_not, bit_at-lt}
-use Rattle.cb_tokens.specs.Forms.{is_line_feed, is_quote, is_name_byte, is_name_start}
+use Rattle.cb_tokens.specs.Forms.{is_quote, is_name_byte, is_name_start}
 use Rattle.cb_tokens.specs.Plain.{is_quiet}
 use Rattle.cb_tokens.specs.inner.Scan.{is_inner, ends_with}
 
@@ -23,11 +23,11 @@ none_of a b k h = (omega (arith, bit_at_or a b k), omega (arith, bit_at_or a b k
 
 -- the bytes that are not quiet
 is_loud_of : (x : ℕ) → (((x ≡ 10) ⊎ (x ≡ 34)) ⊎ (x ≡ 39)) ⊎ (x ≡ 47) → is_quiet x ≡ false
-unfolding is_quiet is_line_feed is_quote
+unfolding is_quiet is_quote
 is_loud_of x h = ⊎_elim (λ h. ⊎_elim (λ h. ⊎_elim (λ e. ap is_quiet e) (λ e. ap is_quiet e) h) (λ e. ap is_quiet e) h) (λ e. ap is_quiet e) h
 
 is_quiet_of : (x : ℕ) → (x ≡ 10 → ⊥) → (x ≡ 34 → ⊥) → (x ≡ 39 → ⊥) → (x ≡ 47 → ⊥) → is_quiet x ≡ true
-unfolding is_quiet is_line_feed is_quote
+unfolding is_quiet is_quote
 is_quiet_of x a b c d = rw (ne_eqb x 10 a, ne_eqb x 34 b, ne_eqb x 39 c, ne_eqb x 47 d) refl
 
 -- bit k of the mask is set where the byte stands in lane k
@@ -68,7 +68,7 @@ pub some_stop : (a b c k : ℕ) → Few a → Few b → Few c → bit_at (bit_or
 some_stop a b c k wa wb wc h = few_of (bit_or a b) c (few_of a b wa wb) wc k h
 
 pub none_stops : (v : List ℕ) (q a b c k : ℕ) → Finds v q a → Finds v 92 b → Finds v 10 c → bit_at (bit_or (bit_or a b) c) k ≡ 0 → is_inner q (get_or v k 0) ≡ true
-unfolding is_inner is_line_feed
+unfolding is_inner
 none_stops v q a b c k fa fb fc h =
     let last = none_of (bit_or a b) c k h in
     let two = none_of a b k last.0 in

@@ -7,17 +7,16 @@ use Rattle.cb_tokens.specs.declared.token.PieceKind.TheVariants.{Token}
 use Rattle.cb_tokens.specs.declared.first.First.TheVariants as first
 use Rattle.cb_tokens.specs.declared.class.Class.TheVariants as classes
 use Rattle.cb_tokens.specs.Forms.{is_name_start, is_name_byte, is_number, is_number_rest, is_punctuator, punctuators, fits}
-use Rattle.cb_tokens.specs.Cut.{StandsFirst}
+use Rattle.cb_tokens.specs.Cut.{StandsFirst, NoneLonger}
 use Rattle.cb_tokens.specs.inner.Classes.{BeginsIn}
 use Rattle.cb_tokens.specs.inner.Scan.{IsLongest}
-use Rattle.cb_tokens.proofs.Longest.{AreWithin}
 use Rattle.cb_tokens.proofs.Numbers.{name_continues}
 use Rattle.cb_tokens.proofs.Punctuators.{of_punctuators}
 use Rattle.cb_tokens.proofs.Heads.{IsMost, stands}
 use Rattle.cb_tokens.proofs.Arms.{fact, fact_of, is_slash, closed, most1}
 
 -- a number
-number_most : (d : ℕ) (ys : List ℕ) (r : ℕ) → IsLongest (is_number_rest d) ys r → AreWithin is_number (d ∷ ys) (suc r)
+number_most : (d : ℕ) (ys : List ℕ) (r : ℕ) → IsLongest (is_number_rest d) ys r → NoneLonger is_number (d ∷ ys) (suc r)
 unfolding is_number
 number_most d ys r l zero le h = omega arith
 number_most d ys r l (suc m) le h =

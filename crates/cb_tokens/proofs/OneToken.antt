@@ -8,7 +8,7 @@ use Rattle.cb_tokens.specs.declared.token.TokenKind.{TokenKind}
 use Rattle.cb_tokens.specs.declared.token.TokenKind.TheVariants.{Identifier, Number, Char, Str, Punct, Other}
 use Rattle.cb_tokens.specs.declared.token.PieceKind.{PieceKind}
 use Rattle.cb_tokens.specs.declared.token.PieceKind.TheVariants.{Token}
-use Rattle.cb_tokens.specs.Forms.{is_white, is_line_feed, is_name_start, is_prefix_letter, is_quote, is_punctuator, punctuators, is_stray, begins_with, is_open_comment, has_comment_end, fits}
+use Rattle.cb_tokens.specs.Forms.{is_white, is_name_start, is_prefix_letter, is_quote, is_punctuator, punctuators, is_stray, begins_with, is_open_comment, has_comment_end, fits}
 use Rattle.cb_tokens.specs.Cut.{Piece}
 use Rattle.cb_tokens.specs.Logical.{IsOneToken}
 use Rattle.cb_tokens.specs.inner.Whole.{IsDecided}
@@ -18,7 +18,7 @@ use Rattle.cb_tokens.proofs.Cutting.{no_piece}
 
 -- of the tokens only punctuators begin with a slash
 slash_start : (k : TokenKind) → (k ≡ Punct → ⊥) → start (Token k) 47 ≡ false
-unfolding start is_name_start is_prefix_letter is_quote is_stray is_white is_line_feed is_punctuator punctuators
+unfolding start is_name_start is_prefix_letter is_quote is_stray is_white is_punctuator punctuators
 slash_start Identifier h = refl
 slash_start Number h = refl
 slash_start Char h = refl

@@ -12,10 +12,9 @@ use Rattle.cb_tokens.specs.declared.class.Class.TheVariants as classes
 use Rattle.cb_tokens.specs.declared.quote.QuoteEnd.{QuoteEnd}
 use Rattle.cb_tokens.specs.declared.quote.QuoteEnd.TheVariants.{Closed, Unclosed}
 use Rattle.cb_tokens.specs.Forms.{is_name_start, is_name_byte, is_quote, is_identifier, is_quoted, closes, is_prefix_letter, is_character, is_string, fits}
-use Rattle.cb_tokens.specs.Cut.{StandsFirst}
+use Rattle.cb_tokens.specs.Cut.{StandsFirst, NoneLonger}
 use Rattle.cb_tokens.specs.inner.Classes.{BeginsIn}
 use Rattle.cb_tokens.specs.inner.Scan.{HasNone, EndsQuote, quoted_kind, prefix_before_quote}
-use Rattle.cb_tokens.proofs.Longest.{AreWithin}
 use Rattle.cb_tokens.proofs.Quotes.{quote_cases}
 use Rattle.cb_tokens.proofs.Prefixes.{prefix_yes}
 use Rattle.cb_tokens.proofs.Heads.{IsMost, stands}
@@ -210,7 +209,7 @@ u8_name_most zs n (suc zero) le h = omega arith
 u8_name_most zs n (suc (suc zero)) le h = omega arith
 u8_name_most zs n (suc (suc (suc m))) le h = absurd (both_ways (is_identifier (117 ∷ 56 ∷ 34 ∷ take m zs)) (u8_name (take m zs)) h)
 
-u8_string_most : (zs : List ℕ) (n : ℕ) → AreWithin (closes 34) zs n → IsMost (117 ∷ 56 ∷ 34 ∷ zs) (suc (suc (suc n))) (Token Str)
+u8_string_most : (zs : List ℕ) (n : ℕ) → NoneLonger (closes 34) zs n → IsMost (117 ∷ 56 ∷ 34 ∷ zs) (suc (suc (suc n))) (Token Str)
 unfolding fits
 u8_string_most zs n w zero le h = omega arith
 u8_string_most zs n w (suc zero) le h = omega arith

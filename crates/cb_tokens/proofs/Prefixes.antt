@@ -2,7 +2,7 @@
 use Rattle.std.proofs.Common.{◌≡◌, ℕ, suc, zero, ◌+◌, ◌≤◌, Bool, true, false, List, [], ◌∷◌, length, take, one-add, sym, refl, ◌∙◌, subst, arith, ⊎_elim}
 use Rattle.std.specs.List.{list_all, prefix_len}
 use Rattle.std.proofs.lemmas.Bool.{and_parts, and_from, cases_Bool, cond-true, cond-false}
-use Rattle.cb_tokens.proofs.Longest.{AreWithin}
+use Rattle.cb_tokens.specs.Cut.{NoneLonger}
 
 -- one more, where the first passes
 pub prefix_yes : (p : ℕ → Bool) (x : ℕ) (xs : List ℕ) → p x ≡ true → prefix_len p (x ∷ xs) ≡ suc (prefix_len p xs)
@@ -19,7 +19,7 @@ all_prefix p (x ∷ xs) =
     (λ h. subst (λ k. list_all p (take k (x ∷ xs)) ≡ true) (sym (prefix_no p x xs h)) refl)
     (cases_Bool (p x))
 
-pub prefix_most : (p : ℕ → Bool) (xs : List ℕ) → AreWithin (list_all p) xs (prefix_len p xs)
+pub prefix_most : (p : ℕ → Bool) (xs : List ℕ) → NoneLonger (list_all p) xs (prefix_len p xs)
 prefix_most p xs zero le h = omega arith
 prefix_most p [] (suc m) le h = omega arith
 prefix_most p (x ∷ xs) (suc m) le h =

@@ -6,8 +6,8 @@ use Rattle.std.proofs.lemmas.Bool.{false≢true, both_ways, and_parts, or_cases,
 use Rattle.std.proofs.lemmas.List.{get_or_past}
 use Rattle.std.proofs.lemmas.Slice.Eq.{bytes_eq-Decides}
 use Rattle.cb_tokens.specs.Forms.{is_punctuator, punctuators}
+use Rattle.cb_tokens.specs.Cut.{NoneLonger}
 use Rattle.cb_tokens.specs.inner.Scan.{IsLongest, is_second}
-use Rattle.cb_tokens.proofs.Longest.{AreWithin}
 
 pub among : (test : List ℕ → Bool) (l : List ℕ) (ps : List (List ℕ)) → list_all test ps ≡ true → list_any (λ p. bytes_eq p l) ps ≡ true → test l ≡ true
 among test l [] all any = absurd (false≢true any)
@@ -87,7 +87,7 @@ room4 xs h =
     omega arith
 
 -- none of the longer fronts is one
-within : (xs : List ℕ) (n : ℕ) → 1 ≤ n → (n < 2 → is_punctuator (front2 xs) ≡ false) → (n < 3 → is_punctuator (front3 xs) ≡ false) → (n < 4 → is_punctuator (front4 xs) ≡ false) → AreWithin is_punctuator xs n
+within : (xs : List ℕ) (n : ℕ) → 1 ≤ n → (n < 2 → is_punctuator (front2 xs) ≡ false) → (n < 3 → is_punctuator (front3 xs) ≡ false) → (n < 4 → is_punctuator (front4 xs) ≡ false) → NoneLonger is_punctuator xs n
 within xs n one two three four zero le h = omega arith
 within xs n one two three four (suc zero) le h = omega arith
 within xs n one two three four (suc (suc zero)) le h =

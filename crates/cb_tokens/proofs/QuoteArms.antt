@@ -3,6 +3,7 @@ use Rattle.std.proofs.Common.{◌≡◌, ℕ, suc, zero, ◌+◌, ◌≤◌, ◌
 use Rattle.std.specs.List.{list_all, prefix_len}
 use Rattle.std.specs.Char.{is_ascii_digit}
 use Rattle.std.proofs.lemmas.Bool.{both_ways, or_cases, eqb-true, leb-true}
+use Rattle.cb_lines.specs.Marks.{is_line_feed}
 use Rattle.cb_tokens.specs.declared.token.TokenKind.TheVariants.{Char, Str, Punct, Other}
 use Rattle.cb_tokens.specs.declared.token.PieceKind.{PieceKind}
 use Rattle.cb_tokens.specs.declared.token.PieceKind.TheVariants.{Comment, Token}
@@ -10,11 +11,10 @@ use Rattle.cb_tokens.specs.declared.first.First.TheVariants as first
 use Rattle.cb_tokens.specs.declared.class.Class.TheVariants as classes
 use Rattle.cb_tokens.specs.declared.quote.QuoteEnd.{QuoteEnd}
 use Rattle.cb_tokens.specs.declared.quote.QuoteEnd.TheVariants.{Closed, Unclosed}
-use Rattle.cb_tokens.specs.Forms.{is_white, is_line_feed, is_name_start, is_quote, is_quoted, closes, is_prefix_letter, is_character, is_string, is_punctuator, punctuators, is_unclosed, stays_unclosed, is_stray, begins_with, ends_comment, is_comment, is_open_comment, has_comment_end, fits}
-use Rattle.cb_tokens.specs.Cut.{StandsFirst}
+use Rattle.cb_tokens.specs.Forms.{is_white, is_name_start, is_quote, is_quoted, closes, is_prefix_letter, is_character, is_string, is_punctuator, punctuators, is_unclosed, stays_unclosed, is_stray, begins_with, ends_comment, is_comment, is_open_comment, has_comment_end, fits}
+use Rattle.cb_tokens.specs.Cut.{StandsFirst, NoneLonger}
 use Rattle.cb_tokens.specs.inner.Classes.{BeginsIn}
 use Rattle.cb_tokens.specs.inner.Scan.{IsLongest, EndsQuote, EndsComment, quoted_kind}
-use Rattle.cb_tokens.proofs.Longest.{AreWithin}
 use Rattle.cb_tokens.proofs.Quotes.{quote_cases}
 use Rattle.cb_tokens.proofs.Prefixes.{prefix_yes, all_prefix, prefix_most, prefix_within}
 use Rattle.cb_tokens.proofs.Punctuators.{of_punctuators}
@@ -97,7 +97,6 @@ line_most zs =
     most2 Comment 47 47 zs (prefix_len (λ b. not (is_line_feed b)) zs) (λ m le h. prefix_most (λ b. not (is_line_feed b)) zs m le (sym (line (take m zs)) ∙ h))
 
 line_len : (zs : List ℕ) → prefix_len (λ b. not (is_line_feed b)) (47 ∷ 47 ∷ zs) ≡ suc (suc (prefix_len (λ b. not (is_line_feed b)) zs))
-unfolding is_line_feed
 line_len zs =
     prefix_yes (λ b. not (is_line_feed b)) 47 (47 ∷ zs) refl ∙ ap suc (prefix_yes (λ b. not (is_line_feed b)) 47 zs refl)
 
@@ -171,7 +170,7 @@ abbrev pub quoted : ℕ → QuoteEnd → first.the_data
 quoted q (Closed n) = first.Piece (Token (quoted_kind q)) (n + 1)
 quoted q (Unclosed n) = first.Piece (Token Other) (n + 1)
 
-other_most : (q : ℕ) (ys : List ℕ) (n : ℕ) → is_quote q ≡ true → AreWithin (stays_unclosed q) ys n → IsMost (q ∷ ys) (suc n) (Token Other)
+other_most : (q : ℕ) (ys : List ℕ) (n : ℕ) → is_quote q ≡ true → NoneLonger (stays_unclosed q) ys n → IsMost (q ∷ ys) (suc n) (Token Other)
 unfolding fits
 other_most q ys n h w = most1 (Token Other) q ys n (λ m le e. w m le (sym (unclosed_other q (take m ys) h) ∙ e))
 

@@ -2,11 +2,15 @@
 use Rattle.std.proofs.Common.{◌≡◌, ℕ, suc, zero, ◌+◌, ◌-◌, ◌<◌, ◌≤◌, ◌==◌, Bool, true, false, not, cond, ◌&&◌, ◌||◌, List, [], ◌∷◌, length, get_or, take, drop, ltb, zero-add, add-zero, sym, refl, ap, ◌∙◌, subst, arith, ◌⊎◌, inl, inr, ⊎_elim}
 use Rattle.std.proofs.lemmas.Bool.{false≢true, or_cases, eqb-true, eq-eqb, lt-ltb, cases_lt, cases_Bool, and_parts, ltb-true, not-true, cond-true, cond-false}
 use Rattle.std.proofs.lemmas.List.{drop_all}
-use Rattle.cb_tokens.specs.Forms.{is_quote, is_line_feed, closes, stays_unclosed}
+use Rattle.cb_lines.specs.Marks.{is_line_feed}
+use Rattle.cb_tokens.specs.Forms.{is_quote, quote_left, is_closed, is_still_open, closes, stays_unclosed}
+use Rattle.cb_tokens.specs.Cut.{NoneLonger}
 use Rattle.cb_tokens.specs.inner.Scan.{is_inner, HasNone, EndsQuote, quote_step}
 use Rattle.cb_tokens.specs.declared.quote.QuoteEnd.{QuoteEnd}
-use Rattle.cb_tokens.specs.declared.quote.QuoteEnd.TheVariants.{Closed, Unclosed}
-use Rattle.cb_tokens.proofs.Longest.{AreWithin, within_on, longest_on, none_on, within_over, longest_over, none_over, split_at}
+use Rattle.cb_tokens.specs.declared.quote.QuoteEnd.TheVariants as ends
+use Rattle.cb_tokens.specs.declared.left.QuoteLeft.{QuoteLeft}
+use Rattle.cb_tokens.specs.declared.left.QuoteLeft.TheVariants.{Closed, Unclosed, Broken}
+use Rattle.cb_tokens.proofs.Longest.{within_on, longest_on, none_on, within_over, longest_over, none_over, split_at}
 
 -- a quote is ' or "
 pub quote_cases : (q : ℕ) → is_quote q ≡ true → (q ≡ 39) ⊎ (q ≡ 34)
@@ -17,16 +21,69 @@ quote_cases q h = ⊎_elim (λ e. inl (eqb-true q 39 e)) (λ e. inr (eqb-true q 
 pub for_quote : (P : ℕ → Type 0) (q : ℕ) → is_quote q ≡ true → P 39 → P 34 → P q
 for_quote P q h one two = ⊎_elim (λ e. subst P (sym e) one) (λ e. subst P (sym e) two) (quote_cases q h)
 
--- a line end closes no quote, and no quote stays open over it
-pub feed_closes : (q b : ℕ) (xs : List ℕ) → is_quote q ≡ true → is_line_feed b ≡ true → closes q (b ∷ xs) ≡ false
-unfolding closes is_line_feed
-feed_closes q b [] h e = rw (eqb-true b 10 e) (for_quote (λ q. (10 == q) ≡ false) q h refl refl)
-feed_closes q b (x ∷ xs) h e = rw (eqb-true b 10 e) (for_quote (λ q. cond ((10 == q) || true) false (closes q (x ∷ xs)) ≡ false) q h refl refl)
+-- a line end breaks a quote
+pub feed_left : (q b : ℕ) (xs : List ℕ) → is_quote q ≡ true → is_line_feed b ≡ true → quote_left q (b ∷ xs) ≡ Broken
+unfolding quote_left
+feed_left q b [] h e =
+    subst (λ v. quote_left q (v ∷ []) ≡ Broken) (sym (eqb-true b 10 e)) (for_quote (λ q. quote_left q (10 ∷ []) ≡ Broken) q h refl refl)
+feed_left q b (x ∷ xs) h e =
+    subst (λ v. quote_left q (v ∷ x ∷ xs) ≡ Broken) (sym (eqb-true b 10 e)) (for_quote (λ q. quote_left q (10 ∷ x ∷ xs) ≡ Broken) q h refl refl)
 
-pub feed_stays : (q b : ℕ) (xs : List ℕ) → is_line_feed b ≡ true → stays_unclosed q (b ∷ xs) ≡ false
+feed_closes : (q b : ℕ) (xs : List ℕ) → is_quote q ≡ true → is_line_feed b ≡ true → closes q (b ∷ xs) ≡ false
+unfolding closes
+feed_closes q b xs h e = ap is_closed (feed_left q b xs h e)
+
+feed_stays : (q b : ℕ) (xs : List ℕ) → is_quote q ≡ true → is_line_feed b ≡ true → stays_unclosed q (b ∷ xs) ≡ false
 unfolding stays_unclosed
-feed_stays q b [] e = grind arith
-feed_stays q b (x ∷ xs) e = grind arith
+feed_stays q b xs h e = ap is_still_open (feed_left q b xs h e)
+
+-- both tests of a quote byte by byte
+by_steps : (x y z : Bool) (l m : QuoteLeft) → is_closed (cond x Broken (cond y (cond z Broken l) m)) ≡ cond x false (cond y (not z && is_closed l) (is_closed m))
+by_steps true y z l m = refl
+by_steps false false z l m = refl
+by_steps false true true l m = refl
+by_steps false true false l m = refl
+
+pub closes_by_steps : (q b c : ℕ) (cs : List ℕ) → closes q (b ∷ c ∷ cs) ≡ cond ((b == q) || is_line_feed b) false (cond (b == 92) (not (is_line_feed c) && closes q cs) (closes q (c ∷ cs)))
+unfolding closes quote_left
+closes_by_steps q b c cs = by_steps ((b == q) || is_line_feed b) (b == 92) (is_line_feed c) (quote_left q cs) (quote_left q (c ∷ cs))
+
+one_by_steps : (x y : Bool) → is_closed (cond x Closed (cond y Broken Unclosed)) ≡ x
+one_by_steps true y = refl
+one_by_steps false true = refl
+one_by_steps false false = refl
+
+pub closes_one : (q b : ℕ) → closes q (b ∷ []) ≡ (b == q)
+unfolding closes quote_left
+closes_one q b = one_by_steps (b == q) (is_line_feed b)
+
+open_by_steps : (x y z : Bool) (l m : QuoteLeft) → is_still_open (cond x Broken (cond y (cond z Broken l) m)) ≡ cond x false (cond y (not z && is_still_open l) (is_still_open m))
+open_by_steps true y z l m = refl
+open_by_steps false false z l m = refl
+open_by_steps false true true l m = refl
+open_by_steps false true false l m = refl
+
+pub stays_by_steps : (q b c : ℕ) (cs : List ℕ) → stays_unclosed q (b ∷ c ∷ cs) ≡ cond ((b == q) || is_line_feed b) false (cond (b == 92) (not (is_line_feed c) && stays_unclosed q cs) (stays_unclosed q (c ∷ cs)))
+unfolding stays_unclosed quote_left
+stays_by_steps q b c cs = open_by_steps ((b == q) || is_line_feed b) (b == 92) (is_line_feed c) (quote_left q cs) (quote_left q (c ∷ cs))
+
+one_open_by_steps : (x y : Bool) → is_still_open (cond x Closed (cond y Broken Unclosed)) ≡ not (x || y)
+one_open_by_steps true y = refl
+one_open_by_steps false true = refl
+one_open_by_steps false false = refl
+
+pub stays_one : (q b : ℕ) → stays_unclosed q (b ∷ []) ≡ not ((b == q) || is_line_feed b)
+unfolding stays_unclosed quote_left
+stays_one q b = one_open_by_steps (b == q) (is_line_feed b)
+
+-- the tests at how the quote ends
+pub closed_as_left : (q : ℕ) (xs : List ℕ) (end : QuoteLeft) → end ≡ quote_left q xs → closes q xs ≡ is_closed end
+unfolding closes
+closed_as_left q xs end e = ap is_closed (sym e)
+
+pub open_as_left : (q : ℕ) (xs : List ℕ) (end : QuoteLeft) → end ≡ quote_left q xs → stays_unclosed q xs ≡ is_still_open end
+unfolding stays_unclosed
+open_as_left q xs end e = ap is_still_open (sym e)
 
 -- the byte does not take the next one with it, as a backslash does
 abbrev Alone : ℕ → List ℕ → Type 0
@@ -46,108 +103,110 @@ alone_of b (c ∷ cs) h = rw h refl
 pub plain_of : (q b : ℕ) (bs : List ℕ) → (b == q) ≡ false → is_line_feed b ≡ false → (b == 92) ≡ false → Plain q b bs
 plain_of q b bs other stays h = record { other = other; stays = stays; alone = alone_of b bs h }
 
-alone_goes : (x y u v : Bool) → (x && not y) ≡ false → (y ≡ true → v ≡ false) → cond x (not y && u) v ≡ v
+alone_goes : (x y : Bool) (u v : QuoteLeft) → (x && not y) ≡ false → (y ≡ true → v ≡ Broken) → cond x (cond y Broken u) v ≡ v
 alone_goes false y u v e h = refl
 alone_goes true true u v e h = sym (h refl)
 alone_goes true false u v e h = absurd (false≢true (sym e))
 
-pub closes_on : (q b : ℕ) (bs : List ℕ) → is_quote q ≡ true → Plain q b bs → (m : ℕ) → closes q (b ∷ take m bs) ≡ closes q (take m bs)
-unfolding closes
-closes_on q b bs quote p zero = p.other
-closes_on q b [] quote p (suc m) = p.other
-closes_on q b (c ∷ cs) quote p (suc m) =
+-- a byte that neither ends the quote nor takes the next one with it
+pub left_on : (q b : ℕ) (bs : List ℕ) → is_quote q ≡ true → Plain q b bs → (m : ℕ) → quote_left q (b ∷ take m bs) ≡ quote_left q (take m bs)
+unfolding quote_left
+left_on q b bs quote p zero = let other = p.other in let stays = p.stays in rw (other, stays) refl
+left_on q b [] quote p (suc m) = let other = p.other in let stays = p.stays in rw (other, stays) refl
+left_on q b (c ∷ cs) quote p (suc m) =
     let other = p.other in
     let stays = p.stays in
-    rw (other, stays) (alone_goes (b == 92) (is_line_feed c) (closes q (take m cs)) (closes q (c ∷ take m cs)) p.alone (λ e. feed_closes q c (take m cs) quote e))
+    rw (other, stays) (alone_goes (b == 92) (is_line_feed c) (quote_left q (take m cs)) (quote_left q (c ∷ take m cs)) p.alone (λ e. feed_left q c (take m cs) quote e))
 
-pub stays_on : (q b : ℕ) (bs : List ℕ) → Plain q b bs → (m : ℕ) → stays_unclosed q (b ∷ take m bs) ≡ stays_unclosed q (take m bs)
+closes_on : (q b : ℕ) (bs : List ℕ) → is_quote q ≡ true → Plain q b bs → (m : ℕ) → closes q (b ∷ take m bs) ≡ closes q (take m bs)
+unfolding closes
+closes_on q b bs quote p m = ap is_closed (left_on q b bs quote p m)
+
+stays_on : (q b : ℕ) (bs : List ℕ) → is_quote q ≡ true → Plain q b bs → (m : ℕ) → stays_unclosed q (b ∷ take m bs) ≡ stays_unclosed q (take m bs)
 unfolding stays_unclosed
-stays_on q b bs p zero = let other = p.other in let stays = p.stays in rw (other, stays) refl
-stays_on q b [] p (suc m) = let other = p.other in let stays = p.stays in rw (other, stays) refl
-stays_on q b (c ∷ cs) p (suc m) =
-    let other = p.other in
-    let stays = p.stays in
-    rw (other, stays) (alone_goes (b == 92) (is_line_feed c) (stays_unclosed q (take m cs)) (stays_unclosed q (c ∷ take m cs)) p.alone (λ e. feed_stays q c (take m cs) e))
+stays_on q b bs quote p m = ap is_still_open (left_on q b bs quote p m)
 
 -- a backslash and the byte that it takes with it
-pub closes_over : (q c : ℕ) (cs : List ℕ) → is_quote q ≡ true → is_line_feed c ≡ false → (m : ℕ) → closes q (92 ∷ c ∷ take m cs) ≡ closes q (take m cs)
-unfolding closes is_line_feed
-closes_over q c cs quote e m =
-    for_quote (λ q. closes q (92 ∷ c ∷ take m cs) ≡ closes q (take m cs)) q quote (rw e refl) (rw e refl)
+pub left_over : (q c : ℕ) (cs : List ℕ) → is_quote q ≡ true → is_line_feed c ≡ false → (m : ℕ) → quote_left q (92 ∷ c ∷ take m cs) ≡ quote_left q (take m cs)
+unfolding quote_left
+left_over q c cs quote e m =
+    for_quote (λ q. quote_left q (92 ∷ c ∷ take m cs) ≡ quote_left q (take m cs)) q quote (rw e refl) (rw e refl)
 
-pub stays_over : (q c : ℕ) (cs : List ℕ) → is_quote q ≡ true → is_line_feed c ≡ false → (m : ℕ) → stays_unclosed q (92 ∷ c ∷ take m cs) ≡ stays_unclosed q (take m cs)
-unfolding stays_unclosed is_line_feed
-stays_over q c cs quote e m =
-    for_quote (λ q. stays_unclosed q (92 ∷ c ∷ take m cs) ≡ stays_unclosed q (take m cs)) q quote (rw e refl) (rw e refl)
-
-none_closes : (q : ℕ) → closes q [] ≡ false
+closes_over : (q c : ℕ) (cs : List ℕ) → is_quote q ≡ true → is_line_feed c ≡ false → (m : ℕ) → closes q (92 ∷ c ∷ take m cs) ≡ closes q (take m cs)
 unfolding closes
+closes_over q c cs quote e m = ap is_closed (left_over q c cs quote e m)
+
+stays_over : (q c : ℕ) (cs : List ℕ) → is_quote q ≡ true → is_line_feed c ≡ false → (m : ℕ) → stays_unclosed q (92 ∷ c ∷ take m cs) ≡ stays_unclosed q (take m cs)
+unfolding stays_unclosed
+stays_over q c cs quote e m = ap is_still_open (left_over q c cs quote e m)
+
+pub none_closes : (q : ℕ) → closes q [] ≡ false
+unfolding closes quote_left
 none_closes q = refl
 
 slash_closes : (q : ℕ) → is_quote q ≡ true → closes q (92 ∷ []) ≡ false
-unfolding closes
-slash_closes q quote = for_quote (λ q. (92 == q) ≡ false) q quote refl refl
+unfolding closes quote_left
+slash_closes q quote = for_quote (λ q. closes q (92 ∷ []) ≡ false) q quote refl refl
 
 -- the answer so many bytes further on
 abbrev pub moved : ℕ → QuoteEnd → QuoteEnd
-moved n (Closed k) = Closed (n + k)
-moved n (Unclosed k) = Unclosed (n + k)
+moved n (ends.Closed k) = ends.Closed (n + k)
+moved n (ends.Unclosed k) = ends.Unclosed (n + k)
 
 abbrev further : QuoteEnd → QuoteEnd
-further (Closed k) = Closed (suc k)
-further (Unclosed k) = Unclosed (suc k)
+further (ends.Closed k) = ends.Closed (suc k)
+further (ends.Unclosed k) = ends.Unclosed (suc k)
 
 moved_none : (r : QuoteEnd) → moved 0 r ≡ r
-moved_none (Closed k) = ap Closed (zero-add k)
-moved_none (Unclosed k) = ap Unclosed (zero-add k)
+moved_none (ends.Closed k) = ap ends.Closed (zero-add k)
+moved_none (ends.Unclosed k) = ap ends.Unclosed (zero-add k)
 
 moved_further : (n : ℕ) (r : QuoteEnd) → moved n (further r) ≡ moved (n + 1) r
-moved_further n (Closed k) = let e : n + suc k ≡ (n + 1) + k = omega arith in ap Closed e
-moved_further n (Unclosed k) = let e : n + suc k ≡ (n + 1) + k = omega arith in ap Unclosed e
+moved_further n (ends.Closed k) = let e : n + suc k ≡ (n + 1) + k = omega arith in ap ends.Closed e
+moved_further n (ends.Unclosed k) = let e : n + suc k ≡ (n + 1) + k = omega arith in ap ends.Unclosed e
 
 moved_over : (n : ℕ) (r : QuoteEnd) → moved n (further (further r)) ≡ moved (n + 2) r
-moved_over n (Closed k) = let e : n + suc (suc k) ≡ (n + 2) + k = omega arith in ap Closed e
-moved_over n (Unclosed k) = let e : n + suc (suc k) ≡ (n + 2) + k = omega arith in ap Unclosed e
+moved_over n (ends.Closed k) = let e : n + suc (suc k) ≡ (n + 2) + k = omega arith in ap ends.Closed e
+moved_over n (ends.Unclosed k) = let e : n + suc (suc k) ≡ (n + 2) + k = omega arith in ap ends.Unclosed e
 
 ends_on : (q b : ℕ) (bs : List ℕ) → is_quote q ≡ true → Plain q b bs → (r : QuoteEnd) → EndsQuote q bs r → EndsQuote q (b ∷ bs) (further r)
-ends_on q b bs quote p (Closed k) e = (
+ends_on q b bs quote p (ends.Closed k) e = (
   longest_on (closes q) (closes q) b bs (closes_on q b bs quote p) k e.0,
-  within_on (stays_unclosed q) (stays_unclosed q) b bs (stays_on q b bs p) k e.1,
+  within_on (stays_unclosed q) (stays_unclosed q) b bs (stays_on q b bs quote p) k e.1,
 )
-ends_on q b bs quote p (Unclosed k) e = (
-  longest_on (stays_unclosed q) (stays_unclosed q) b bs (stays_on q b bs p) k e.0,
+ends_on q b bs quote p (ends.Unclosed k) e = (
+  longest_on (stays_unclosed q) (stays_unclosed q) b bs (stays_on q b bs quote p) k e.0,
   none_on (closes q) (closes q) b bs (closes_on q b bs quote p) (none_closes q) e.1,
 )
 
 ends_over : (q c : ℕ) (cs : List ℕ) → is_quote q ≡ true → is_line_feed c ≡ false → (r : QuoteEnd) → EndsQuote q cs r → EndsQuote q (92 ∷ c ∷ cs) (further (further r))
-ends_over q c cs quote f (Closed k) e = (
+ends_over q c cs quote f (ends.Closed k) e = (
   longest_over (closes q) (closes q) 92 c cs (closes_over q c cs quote f) k e.0,
   within_over (stays_unclosed q) (stays_unclosed q) 92 c cs (stays_over q c cs quote f) k e.1,
 )
-ends_over q c cs quote f (Unclosed k) e = (
+ends_over q c cs quote f (ends.Unclosed k) e = (
   longest_over (stays_unclosed q) (stays_unclosed q) 92 c cs (stays_over q c cs quote f) k e.0,
   none_over (closes q) (closes q) 92 c cs (closes_over q c cs quote f) (none_closes q) (slash_closes q quote) e.1,
 )
 
 -- the quote stands at the front
-closed_within : (q : ℕ) (bs : List ℕ) → AreWithin (closes q) (q ∷ bs) 1
-unfolding closes
+closed_within : (q : ℕ) (bs : List ℕ) → NoneLonger (closes q) (q ∷ bs) 1
+unfolding closes quote_left
 closed_within q bs zero le h = omega arith
 closed_within q bs (suc zero) le h = omega arith
 closed_within q [] (suc (suc m)) le h = omega arith
 closed_within q (c ∷ cs) (suc (suc m)) le h = absurd (false≢true (sym (rw (eq-eqb q q refl) refl) ∙ h))
 
-unclosed_within : (q : ℕ) (bs : List ℕ) → AreWithin (stays_unclosed q) (q ∷ bs) 1
-unfolding stays_unclosed
+unclosed_within : (q : ℕ) (bs : List ℕ) → NoneLonger (stays_unclosed q) (q ∷ bs) 1
+unfolding stays_unclosed quote_left
 unclosed_within q bs zero le h = omega arith
 unclosed_within q bs (suc zero) le h = omega arith
 unclosed_within q [] (suc (suc m)) le h = omega arith
 unclosed_within q (c ∷ cs) (suc (suc m)) le h = absurd (false≢true (sym (rw (eq-eqb q q refl) refl) ∙ h))
 
-ends_here : (q : ℕ) (bs : List ℕ) → EndsQuote q (q ∷ bs) (Closed 1)
-unfolding closes
+ends_here : (q : ℕ) (bs : List ℕ) → EndsQuote q (q ∷ bs) (ends.Closed 1)
 ends_here q bs = (
-  record { within = omega arith; holds = eq-eqb q q refl; longest = closed_within q bs },
+  record { within = omega arith; holds = closes_one q q ∙ eq-eqb q q refl; longest = closed_within q bs },
   unclosed_within q bs,
 )
 
@@ -156,20 +215,20 @@ abbrev AtLineEnd : List ℕ → Type 0
 AtLineEnd [] = Unit {0}
 AtLineEnd (b ∷ bs) = is_line_feed b ≡ true
 
-left_within : (q : ℕ) (xs : List ℕ) → AtLineEnd xs → AreWithin (stays_unclosed q) xs 0
-left_within q xs e zero le h = omega arith
-left_within q [] e (suc m) le h = omega arith
-left_within q (b ∷ bs) e (suc m) le h = absurd (false≢true (sym (feed_stays q b (take m bs) e) ∙ h))
+left_within : (q : ℕ) (xs : List ℕ) → is_quote q ≡ true → AtLineEnd xs → NoneLonger (stays_unclosed q) xs 0
+left_within q xs quote e zero le h = omega arith
+left_within q [] quote e (suc m) le h = omega arith
+left_within q (b ∷ bs) quote e (suc m) le h = absurd (false≢true (sym (feed_stays q b (take m bs) quote e) ∙ h))
 
 none_left : (q : ℕ) (xs : List ℕ) → is_quote q ≡ true → AtLineEnd xs → HasNone (closes q) xs
 none_left q xs quote e zero le = none_closes q
 none_left q [] quote e (suc m) le = none_closes q
 none_left q (b ∷ bs) quote e (suc m) le = feed_closes q b (take m bs) quote e
 
-ends_left : (q : ℕ) (xs : List ℕ) → is_quote q ≡ true → AtLineEnd xs → EndsQuote q xs (Unclosed 0)
-unfolding stays_unclosed
+ends_left : (q : ℕ) (xs : List ℕ) → is_quote q ≡ true → AtLineEnd xs → EndsQuote q xs (ends.Unclosed 0)
+unfolding stays_unclosed quote_left
 ends_left q xs quote e =
-    (record { within = omega arith; holds = refl; longest = left_within q xs e }, none_left q xs quote e)
+    (record { within = omega arith; holds = refl; longest = left_within q xs quote e }, none_left q xs quote e)
 
 -- where the quote ends from an index on is where it ends from the start
 abbrev pub QuoteAhead : ℕ → List ℕ → ℕ → Type 0
@@ -178,18 +237,18 @@ QuoteAhead q xs n = (r : QuoteEnd) → EndsQuote q (drop n xs) r → EndsQuote q
 pub ahead_start : (q : ℕ) (xs : List ℕ) → QuoteAhead q xs 0
 ahead_start q xs r e = subst (EndsQuote q xs) (sym (moved_none r)) e
 
-pub ahead_closed : (q : ℕ) (xs : List ℕ) (n : ℕ) → n < length xs → get_or xs n 0 ≡ q → QuoteAhead q xs n → EndsQuote q xs (Closed (n + 1))
+pub ahead_closed : (q : ℕ) (xs : List ℕ) (n : ℕ) → n < length xs → get_or xs n 0 ≡ q → QuoteAhead q xs n → EndsQuote q xs (ends.Closed (n + 1))
 ahead_closed q xs n h e ahead =
-    ahead (Closed 1) (subst (λ ys. EndsQuote q ys (Closed 1)) (sym (split_at xs n h ∙ ap (λ b. b ∷ drop (n + 1) xs) e)) (ends_here q (drop (n + 1) xs)))
+    ahead (ends.Closed 1) (subst (λ ys. EndsQuote q ys (ends.Closed 1)) (sym (split_at xs n h ∙ ap (λ b. b ∷ drop (n + 1) xs) e)) (ends_here q (drop (n + 1) xs)))
 
-ahead_left : (q : ℕ) (xs : List ℕ) (n : ℕ) → is_quote q ≡ true → AtLineEnd (drop n xs) → QuoteAhead q xs n → EndsQuote q xs (Unclosed n)
+ahead_left : (q : ℕ) (xs : List ℕ) (n : ℕ) → is_quote q ≡ true → AtLineEnd (drop n xs) → QuoteAhead q xs n → EndsQuote q xs (ends.Unclosed n)
 ahead_left q xs n quote e ahead =
-    subst (λ k. EndsQuote q xs (Unclosed k)) (add-zero n) (ahead (Unclosed 0) (ends_left q (drop n xs) quote e))
+    subst (λ k. EndsQuote q xs (ends.Unclosed k)) (add-zero n) (ahead (ends.Unclosed 0) (ends_left q (drop n xs) quote e))
 
-pub ahead_feed : (q : ℕ) (xs : List ℕ) (n : ℕ) → is_quote q ≡ true → n < length xs → is_line_feed (get_or xs n 0) ≡ true → QuoteAhead q xs n → EndsQuote q xs (Unclosed n)
+pub ahead_feed : (q : ℕ) (xs : List ℕ) (n : ℕ) → is_quote q ≡ true → n < length xs → is_line_feed (get_or xs n 0) ≡ true → QuoteAhead q xs n → EndsQuote q xs (ends.Unclosed n)
 ahead_feed q xs n quote h e ahead = ahead_left q xs n quote (subst AtLineEnd (sym (split_at xs n h)) e) ahead
 
-pub ahead_end : (q : ℕ) (xs : List ℕ) (n : ℕ) → is_quote q ≡ true → length xs ≤ n → QuoteAhead q xs n → EndsQuote q xs (Unclosed n)
+pub ahead_end : (q : ℕ) (xs : List ℕ) (n : ℕ) → is_quote q ≡ true → length xs ≤ n → QuoteAhead q xs n → EndsQuote q xs (ends.Unclosed n)
 ahead_end q xs n quote h ahead = ahead_left q xs n quote (subst AtLineEnd (sym (drop_all n xs h)) tt) ahead
 
 -- one byte further on

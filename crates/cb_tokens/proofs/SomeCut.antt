@@ -4,13 +4,13 @@ use Rattle.std.specs.List.{list_any}
 use Rattle.std.specs.Char.{is_ascii_digit}
 use Rattle.std.proofs.lemmas.Bool.{false≢true, both_ways, or_cases, or_left, or_right, eqb-true}
 use Rattle.cb_lines.specs.declared.mark.Mark.{Mark}
-use Rattle.cb_lines.specs.Marks.{bytes_of, first_line}
+use Rattle.cb_lines.specs.Marks.{bytes_of, first_line, is_line_feed}
 use Rattle.cb_tokens.specs.declared.token.TokenKind.TheVariants.{Identifier, Number, Char, Str, Punct, Other}
 use Rattle.cb_tokens.specs.declared.token.PieceKind.{PieceKind}
 use Rattle.cb_tokens.specs.declared.token.PieceKind.TheVariants.{White, Comment, LineEnd, Token}
 use Rattle.cb_tokens.specs.declared.first.First.{First}
 use Rattle.cb_tokens.specs.declared.first.First.TheVariants as first
-use Rattle.cb_tokens.specs.Forms.{is_white, is_line_feed, is_name_start, is_quote, is_identifier, is_number, is_number_rest, is_punctuator, is_unclosed, stays_unclosed, is_stray, is_white_run, is_open_comment, fits}
+use Rattle.cb_tokens.specs.Forms.{is_white, is_name_start, is_quote, is_identifier, is_number, is_number_rest, is_punctuator, is_unclosed, quote_left, stays_unclosed, is_stray, is_white_run, is_open_comment, fits}
 use Rattle.cb_tokens.specs.Cut.{StandsFirst, Piece, IsCut, HasOpenComment}
 use Rattle.cb_tokens.proofs.Cutting.{piece_at, piece_some, cuts_append, cuts_one}
 
@@ -25,11 +25,11 @@ not_false false h = absurd (false≢true (sym h))
 
 -- a byte by itself is a piece
 line_end_alone : (b : ℕ) → is_line_feed b ≡ true → fits LineEnd (b ∷ []) ≡ true
-unfolding is_line_feed fits
+unfolding fits
 line_end_alone b h = subst (λ v. fits LineEnd (v ∷ []) ≡ true) (sym (eqb-true b 10 h)) refl
 
 quote_alone : (b : ℕ) → is_quote b ≡ true → fits (Token Other) (b ∷ []) ≡ true
-unfolding fits is_unclosed stays_unclosed
+unfolding fits is_unclosed stays_unclosed quote_left
 quote_alone b h = or_left (is_quote b && stays_unclosed b []) (is_stray (b ∷ [])) (simp h)
 
 number_alone : (b : ℕ) → is_ascii_digit b ≡ true → fits (Token Number) (b ∷ []) ≡ true

@@ -8,14 +8,14 @@ use Rattle.std.proofs.lemmas.List.Folds.{list_all-append}
 use Rattle.std.proofs.lemmas.Grind.{flat_map-append}
 use Rattle.std.proofs.lemmas.List.{get_or-take, drop-map, drop-drop, length-map}
 use Rattle.cb_lines.specs.declared.mark.Mark.{Mark}
-use Rattle.cb_lines.specs.Marks.{bytes_of}
+use Rattle.cb_lines.specs.Marks.{bytes_of, is_line_feed}
 use Rattle.cb_lines.specs.Lines.{StandOn}
 use Rattle.cb_tokens.specs.declared.token.TokenKind.{TokenKind}
 use Rattle.cb_tokens.specs.declared.token.TokenKind.TheVariants.{Identifier, Number, Char, Str, Punct, Other}
 use Rattle.cb_tokens.specs.declared.token.PieceKind.{PieceKind}
 use Rattle.cb_tokens.specs.declared.token.PieceKind.TheVariants.{White, Comment, LineEnd, Token}
 use Rattle.cb_tokens.specs.declared.first.First.TheVariants as first
-use Rattle.cb_tokens.specs.Forms.{is_white, is_line_feed, is_name_start, is_name_byte, is_quote, is_identifier, is_number, is_number_rest, continues_number, is_prefix_letter, is_character, is_string, is_punctuator, punctuators, is_unclosed, is_stray, is_white_run, is_open_comment, fits, stays_unclosed}
+use Rattle.cb_tokens.specs.Forms.{is_white, is_name_start, is_name_byte, is_quote, is_identifier, is_number, is_number_rest, continues_number, is_prefix_letter, is_character, is_string, is_punctuator, punctuators, is_unclosed, is_stray, is_white_run, is_open_comment, fits, stays_unclosed}
 use Rattle.cb_tokens.specs.declared.class.Class.TheVariants as classes
 use Rattle.cb_tokens.specs.inner.Classes.{class_of}
 use Rattle.cb_tokens.specs.Cut.{StandsFirst, Piece, Cuts}
@@ -45,23 +45,23 @@ unfoldable pub is_solid : ℕ → Bool
 is_solid b = not (is_white b || is_line_feed b)
 
 name_solid : (b : ℕ) → is_name_byte b ≡ true → is_solid b ≡ true
-unfolding is_name_byte is_name_start is_solid is_white is_line_feed
+unfolding is_name_byte is_name_start is_solid is_white
 name_solid b h = grind (arith, nat_tests)
 
 continues_solid : (before b after : ℕ) → continues_number before b after ≡ true → is_solid b ≡ true
-unfolding continues_number is_name_byte is_name_start is_solid is_white is_line_feed
+unfolding continues_number is_name_byte is_name_start is_solid is_white
 continues_solid before b after h = grind (arith, nat_tests)
 
 number_head_solid : (b : ℕ) (e : Bool) → (is_ascii_digit b || ((b == 46) && e)) ≡ true → is_solid b ≡ true
-unfolding is_solid is_white is_line_feed
+unfolding is_solid is_white
 number_head_solid b e h = grind (arith, nat_tests)
 
 pub prefix_solid : (b : ℕ) → is_prefix_letter b ≡ true → is_solid b ≡ true
-unfolding is_prefix_letter is_solid is_white is_line_feed
+unfolding is_prefix_letter is_solid is_white
 prefix_solid b h = grind (arith, nat_tests)
 
 start_solid : (b : ℕ) → is_name_start b ≡ true → is_solid b ≡ true
-unfolding is_name_start is_solid is_white is_line_feed
+unfolding is_name_start is_solid is_white
 start_solid b h = grind (arith, nat_tests)
 
 names_solid : (l : List ℕ) → list_all is_name_byte l ≡ true → list_all is_solid l ≡ true
@@ -92,7 +92,7 @@ number_solid (b ∷ bs) h =
     and_from (is_solid b) (list_all is_solid bs) (number_head_solid b (is_ascii_digit (get_or bs 0 0)) p.0) (rest_solid b bs p.1)
 
 pub punctuator_solid : (l : List ℕ) → is_punctuator l ≡ true → list_all is_solid l ≡ true
-unfolding punctuators is_solid is_white is_line_feed
+unfolding punctuators is_solid is_white
 punctuator_solid l h = of_punctuators (list_all is_solid) refl l h
 
 all_at : (p : ℕ → Bool) (l : List ℕ) (k : ℕ) → list_all p l ≡ true → k < length l → p (get_or l k 0) ≡ true
@@ -194,7 +194,7 @@ unfolding is_apart
 quote_joined a q h g = let other = quote_no_slash q h in rw (other, h, g) refl
 
 feed_not_solid : is_solid 10 ≡ false
-unfolding is_solid is_white is_line_feed
+unfolding is_solid is_white
 feed_not_solid = refl
 
 white_not_solid : (b : ℕ) → is_white b ≡ true → is_solid b ≡ false
@@ -250,7 +250,7 @@ taken_or (suc m) zero q (x ∷ xs) h = h
 taken_or (suc m) (suc k) q (x ∷ xs) h = taken_or m k q xs h
 
 u_solid : is_solid 117 ≡ true
-unfolding is_solid is_white is_line_feed
+unfolding is_solid is_white
 u_solid = refl
 
 eight_named : is_name_byte 56 ≡ true
@@ -321,7 +321,7 @@ stray_stops (x ∷ y ∷ xs) n (suc (suc m)) b le h lt = false≢true h
 
 -- the piece at the front is white space or a token
 front_plain_by : (k : PieceKind) (x : ℕ) → is_quiet x ≡ true → start k x ≡ true → is_plain k ≡ true
-unfolding start is_line_feed
+unfolding start
 front_plain_by White x q h = refl
 front_plain_by Comment x q h = absurd (both_ways (x == 47) (quiet_parts x q).2 h)
 front_plain_by LineEnd x q h = absurd (both_ways (x == 10) (quiet_parts x q).0 h)
@@ -642,7 +642,6 @@ cuts_plain bs n some within head plain ms e =
 -- no line ends before the end of quiet bytes, nor in a token
 pub quiet_no_feed : (bs : List ℕ) (at end : ℕ) → ((k : ℕ) → k < at → (get_or bs k 0 == 10) ≡ false) → ((k : ℕ) → at ≤ k → k < end → is_quiet (get_or bs k 0) ≡ true)
     → (k : ℕ) → k < end → (get_or bs k 0 == 10) ≡ false
-unfolding is_line_feed
 quiet_no_feed bs at end before quiet k lt =
     elim (cases_lt k at) [ inl l ↦ before k l | inr ge ↦ (quiet_parts (get_or bs k 0) (quiet k ge lt)).0 ]
 

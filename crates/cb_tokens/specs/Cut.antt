@@ -1,5 +1,5 @@
 -- The cut of a source into pieces: from the left, each piece the longest that fits (5.1.1.2 phase 3, 6.4).
-use Rattle.std.specs.Prelude.{◌≡◌, ℕ, ◌≤◌, true, false, List, [], ◌∷◌, length, take, drop}
+use Rattle.std.specs.Prelude.{◌≡◌, ℕ, ◌≤◌, Bool, true, false, List, [], ◌∷◌, length, take, drop}
 use Rattle.cb_lines.specs.declared.mark.Mark.{Mark}
 use Rattle.cb_lines.specs.Marks.{bytes_of, first_line}
 use Rattle.cb_tokens.specs.Forms.{fits, is_open_comment}
@@ -7,11 +7,15 @@ use Rattle.cb_tokens.specs.declared.token.PieceKind.{PieceKind}
 use Rattle.cb_tokens.specs.declared.first.First.{First}
 use Rattle.cb_tokens.specs.declared.first.First.TheVariants as first
 
+-- no prefix with the form is longer than n bytes (own)
+abbrev pub NoneLonger : (List ℕ → Bool) → List ℕ → ℕ → Type 0
+NoneLonger form bytes n = (m : ℕ) → m ≤ length bytes → form (take m bytes) ≡ true → m ≤ n
+
 -- The first n bytes are a piece of the kind, and no longer prefix is a piece of any kind (6.4, paragraph 4).
 pub record IsFirst (bytes : List ℕ) (kind : PieceKind) (n : ℕ) : Type 0 where
   pub within : n ≤ length bytes
   pub holds : fits kind (take n bytes) ≡ true
-  pub longest : (k : PieceKind) (m : ℕ) → m ≤ length bytes → fits k (take m bytes) ≡ true → m ≤ n
+  pub longest : (k : PieceKind) → NoneLonger (fits k) bytes n
 
 -- what stands at the front of bytes: an open comment, or else the longest piece (6.4 paragraph 4)
 abbrev pub StandsFirst : List ℕ → First → Type 0

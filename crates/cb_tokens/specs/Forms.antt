@@ -3,17 +3,16 @@ use Rattle.std.specs.Prelude.{ℕ, ◌==◌, ◌&&◌, ◌||◌, Bool, true, fal
 use Rattle.std.specs.List.{list_all, list_any}
 use Rattle.std.specs.Str.{bytes_eq}
 use Rattle.std.specs.Char.{is_ascii_alphabetic, is_ascii_digit}
+use Rattle.cb_lines.specs.Marks.{is_line_feed}
 use Rattle.cb_tokens.specs.declared.token.TokenKind.TheVariants.{Identifier, Number, Char, Str, Punct, Other}
 use Rattle.cb_tokens.specs.declared.token.PieceKind.{PieceKind}
+use Rattle.cb_tokens.specs.declared.left.QuoteLeft.{QuoteLeft}
+use Rattle.cb_tokens.specs.declared.left.QuoteLeft.TheVariants.{Closed, Unclosed, Broken}
 use Rattle.cb_tokens.specs.declared.token.PieceKind.TheVariants.{White, Comment, LineEnd, Token}
 
 -- white space that ends no line: space, HT, VT, FF, CR (5.1.1.2 phase 3; CR is own)
 unfoldable pub is_white : ℕ → Bool
 is_white byte = (byte == 32) || (byte == 9) || (byte == 11) || (byte == 12) || (byte == 13)
-
--- LF (5.1.1.2, phase 1)
-unfoldable pub is_line_feed : ℕ → Bool
-is_line_feed byte = byte == 10
 
 -- what an identifier begins with (6.4.2.1; $ and the bytes from 128 on are own)
 unfoldable pub is_name_start : ℕ → Bool
@@ -50,14 +49,28 @@ unfoldable pub is_number : List ℕ → Bool
 is_number [] = false
 is_number (b ∷ bs) = (is_ascii_digit b || ((b == 46) && is_ascii_digit (slice_index bs 0))) && is_number_rest b bs
 
--- Behind an opening quote: bytes other than the quote, a backslash and LF, or a backslash with a byte other than LF, and
--- then the closing quote as the last byte (6.4.4.4, 6.4.5)
+-- How bytes behind an opening quote end it: the quote as the last byte closes it, the quote before that or an LF breaks it,
+-- and a backslash takes the byte behind it along (6.4.4.4, 6.4.5)
+unfoldable pub quote_left : ℕ → List ℕ → QuoteLeft
+quote_left quote [] = Unclosed
+quote_left quote (b ∷ []) = if b == quote then Closed else (if is_line_feed b then Broken else Unclosed)
+quote_left quote (b ∷ c ∷ cs) =
+    if (b == quote) || is_line_feed b then Broken
+    else (if b == 92 then (if is_line_feed c then Broken else quote_left quote cs) else quote_left quote (c ∷ cs))
+
+-- it is closed (own)
+abbrev pub is_closed : QuoteLeft → Bool
+is_closed Closed = true
+is_closed _ = false
+
+-- it is still open (own)
+abbrev pub is_still_open : QuoteLeft → Bool
+is_still_open Unclosed = true
+is_still_open _ = false
+
+-- behind a quote: its end is the last byte (6.4.4.4, 6.4.5)
 unfoldable pub closes : ℕ → List ℕ → Bool
-closes quote [] = false
-closes quote (b ∷ []) = b == quote
-closes quote (b ∷ c ∷ cs) =
-    if (b == quote) || is_line_feed b then false
-    else (if b == 92 then not (is_line_feed c) && closes quote cs else closes quote (c ∷ cs))
+closes quote bs = is_closed (quote_left quote bs)
 
 -- a quote with its end (6.4.4.4, 6.4.5)
 unfoldable pub is_quoted : ℕ → List ℕ → Bool
@@ -95,11 +108,7 @@ is_punctuator bs = list_any (λ p. bytes_eq p bs) punctuators
 
 -- behind a quote: no LF, and no end of the quote (own)
 unfoldable pub stays_unclosed : ℕ → List ℕ → Bool
-stays_unclosed quote [] = true
-stays_unclosed quote (b ∷ []) = not ((b == quote) || is_line_feed b)
-stays_unclosed quote (b ∷ c ∷ cs) =
-    if (b == quote) || is_line_feed b then false
-    else (if b == 92 then not (is_line_feed c) && stays_unclosed quote cs else stays_unclosed quote (c ∷ cs))
+stays_unclosed quote bs = is_still_open (quote_left quote bs)
 
 -- a quote and what follows it on its logical line, where it has no end there (own)
 unfoldable pub is_unclosed : List ℕ → Bool

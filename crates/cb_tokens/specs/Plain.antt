@@ -3,7 +3,8 @@ use Rattle.std.specs.Prelude.{◌≡◌, ℕ, ◌-◌, ◌<◌, ◌==◌, ◌||�
 use Rattle.std.specs.List.{flat_map, list_all}
 use Rattle.cb_lines.specs.declared.mark.Mark.{Mark}
 use Rattle.cb_lines.specs.Lines.{StandOn}
-use Rattle.cb_tokens.specs.Forms.{is_white, is_line_feed, is_quote}
+use Rattle.cb_lines.specs.Marks.{is_line_feed}
+use Rattle.cb_tokens.specs.Forms.{is_white, is_quote}
 use Rattle.cb_tokens.specs.Cut.{Piece, Cuts}
 use Rattle.cb_tokens.specs.Logical.{token_marks}
 use Rattle.cb_tokens.specs.declared.token.TokenKind.{TokenKind}

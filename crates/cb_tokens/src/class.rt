@@ -30,7 +30,7 @@ pub(crate) enum Class {
 }
 
 /// The class of a byte.
-#[tactic(auto, unfolding(crate::specs::inner::Classes::class_of, crate::specs::Forms::is_white, crate::specs::Forms::is_line_feed, crate::specs::Forms::is_name_start, crate::specs::Forms::is_prefix_letter, crate::specs::Forms::is_quote))]
+#[tactic(auto, unfolding(crate::specs::inner::Classes::class_of, crate::specs::Forms::is_white, crate::specs::Forms::is_name_start, crate::specs::Forms::is_prefix_letter, crate::specs::Forms::is_quote))]
 pub(crate) fn class_of(byte: u8) -> Class
     ensures { result ≡ class_of byte }
 {

@@ -2,8 +2,8 @@
 ghost use Rattle.std.specs.Prelude.{◌≡◌, true, ◌∷◌};
 ghost use Rattle.std.specs.List.{list_all};
 ghost use Rattle.cb_lines.specs.Marks.{bytes_of};
-ghost use Rattle.cb_tokens.specs.Forms.{is_name_byte, is_number_rest, is_punctuator, is_quote};
-ghost use Rattle.cb_tokens.specs.inner.Whole.{EndsAs, byte_of};
+ghost use Rattle.cb_tokens.specs.Forms.{is_name_byte, is_number_rest, is_punctuator, is_quote, quote_left};
+ghost use Rattle.cb_tokens.specs.inner.Whole.{byte_of};
 
 use crate::number::continues_number;
 use crate::punctuator::{is_pair, is_quadruple, is_single, is_triple};
@@ -83,7 +83,7 @@ pub(crate) fn are_punctuator(first: u8, marker: &mut Marker<'_>) -> bool
 /// How all the marks that are left end a quote.
 pub(crate) fn quote_left(quote: u8, marker: &mut Marker<'_>) -> QuoteLeft
     requires { is_quote quote ≡ true }
-    ensures { EndsAs quote (bytes_of marker.old) result }
+    ensures { result ≡ quote_left quote (bytes_of marker.old) }
 {
     'marks: while let Some(mark) = marker.next() {
         if mark.byte == quote {

@@ -95,7 +95,6 @@ fn last_end_of_white(bytes: &[u8], from: usize, to: usize) -> usize
 
 /// Whether an LF stands at a place.
 #[inline]
-#[tactic(auto, unfolding(crate::specs::Forms::is_line_feed))]
 fn is_feed_at(bytes: &[u8], at: usize) -> bool
     ensures yes { result ≡ true → (at < length bytes.now) × (slice_index bytes.now at ≡ 10) }
     ensures no { result ≡ false → slice_index bytes.now at ≡ 10 → length bytes.now ≤ at }
@@ -105,7 +104,7 @@ fn is_feed_at(bytes: &[u8], at: usize) -> bool
 
 /// Whether a piece may go over to a byte that is not quiet from the one before it: to a quote behind what a name goes on with.
 #[inline]
-#[tactic(auto, unfolding(crate::specs::Plain::is_quiet, crate::specs::inner::Breaks::is_apart, crate::specs::Forms::is_line_feed, crate::specs::Forms::is_quote))]
+#[tactic(auto, unfolding(crate::specs::Plain::is_quiet, crate::specs::inner::Breaks::is_apart, crate::specs::Forms::is_quote))]
 fn may_go_on(before: u8, byte: u8) -> bool
     requires { is_quiet byte ≡ false }
     ensures feed { byte ≡ 10 → result ≡ false }

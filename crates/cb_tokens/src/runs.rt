@@ -1,7 +1,8 @@
 //! Runs of bytes that are each of one kind.
 ghost use Rattle.std.specs.Prelude.{ℕ, ◌≡◌, ◌<◌, ◌≤◌, true, false, not, length, drop, slice_index};
 ghost use Rattle.std.specs.List.{prefix_len};
-ghost use Rattle.cb_tokens.specs.Forms.{is_white, is_name_byte, is_line_feed};
+ghost use Rattle.cb_lines.specs.Marks.{is_line_feed};
+ghost use Rattle.cb_tokens.specs.Forms.{is_white, is_name_byte};
 
 use crate::lanes::name_len_of_16;
 use crate::table::{is_name_byte, is_white};
@@ -26,7 +27,6 @@ pub(crate) fn behind(bytes: &[u8], count: usize) -> &[u8]
 
 /// Whether it ends a line.
 #[inline]
-#[tactic(auto, unfolding(crate::specs::Forms::is_line_feed))]
 pub(crate) fn is_line_feed(byte: u8) -> bool
     ensures { result ≡ is_line_feed byte }
 {

@@ -6,13 +6,13 @@ use Rattle.std.proofs.lemmas.List.{take-map}
 use Rattle.std.proofs.lemmas.Slice.Eq.{bytes_eq-Decides}
 use Rattle.std.proofs.lemmas.Bool.Decides.{Decides-or}
 use Rattle.cb_lines.specs.declared.mark.Mark.{Mark}
-use Rattle.cb_lines.specs.Marks.{bytes_of}
+use Rattle.cb_lines.specs.Marks.{bytes_of, is_line_feed}
 use Rattle.cb_tokens.specs.declared.token.TokenKind.{TokenKind}
 use Rattle.cb_tokens.specs.declared.token.PieceKind.{PieceKind}
 use Rattle.cb_tokens.specs.declared.token.PieceKind.TheVariants as kinds
 use Rattle.cb_tokens.specs.declared.first.First.TheVariants as first
 use Rattle.cb_tokens.specs.declared.token.TokenKind.TheVariants as token
-use Rattle.cb_tokens.specs.Forms.{is_white, is_line_feed, is_name_start, is_name_byte, is_quote, is_identifier, continues_number, is_number_rest, is_number, closes, is_quoted, is_prefix_letter, is_character, is_string, punctuators, is_punctuator, stays_unclosed, is_unclosed, is_stray, is_white_run, begins_with, has_comment_end, ends_comment, is_comment, is_open_comment, fits}
+use Rattle.cb_tokens.specs.Forms.{is_white, is_name_start, is_name_byte, is_quote, is_identifier, continues_number, is_number_rest, is_number, quote_left, closes, is_quoted, is_prefix_letter, is_character, is_string, punctuators, is_punctuator, stays_unclosed, is_unclosed, is_stray, is_white_run, begins_with, has_comment_end, ends_comment, is_comment, is_open_comment, fits}
 use Rattle.cb_tokens.specs.Cut.{Piece, IsFirst, StandsFirst, IsCut}
 use Rattle.cb_tree.specs.Kinds.{is_hash_text}
 use Rattle.cb_tree.proofs.Pieces.{some_bytes}
@@ -29,7 +29,7 @@ digraph_left text h other = ⊎_elim (λ e. absurd (other e)) (λ e. e) (spellin
 
 -- both are punctuators
 is_punctuator_kind : (j : TokenKind) → (fits (kinds.Token j) (codes "#") ≡ true) ⊎ (fits (kinds.Token j) (codes "%:") ≡ true) → j ≡ token.Punct
-unfolding is_white is_line_feed is_name_start is_name_byte is_quote is_identifier continues_number is_number_rest is_number closes is_quoted is_prefix_letter is_character is_string punctuators is_punctuator stays_unclosed is_unclosed is_stray is_white_run begins_with has_comment_end ends_comment is_comment is_open_comment fits
+unfolding is_white is_name_start is_name_byte is_quote is_identifier continues_number is_number_rest is_number quote_left closes is_quoted is_prefix_letter is_character is_string punctuators is_punctuator stays_unclosed is_unclosed is_stray is_white_run begins_with has_comment_end ends_comment is_comment is_open_comment fits
 is_punctuator_kind token.Identifier (inl h) = absurd (cc)
 is_punctuator_kind token.Identifier (inr h) = absurd (cc)
 is_punctuator_kind token.Number (inl h) = absurd (cc)

@@ -2,7 +2,8 @@
 use Rattle.std.specs.Prelude.{◌≡◌, ℕ, ◌<◌, ◌==◌, Bool, if◌then◌else◌, List, length, slice_index, codes}
 use Rattle.std.specs.List.{list_any}
 use Rattle.std.specs.Char.{is_ascii_digit}
-use Rattle.cb_tokens.specs.Forms.{is_white, is_line_feed, is_name_start, is_prefix_letter, is_quote}
+use Rattle.cb_lines.specs.Marks.{is_line_feed}
+use Rattle.cb_tokens.specs.Forms.{is_white, is_name_start, is_prefix_letter, is_quote}
 use Rattle.cb_tokens.specs.declared.class.Class.{Class}
 use Rattle.cb_tokens.specs.declared.class.Class.TheVariants as classes
 

@@ -1,7 +1,9 @@
 -- What the scanners of single forms answer.
 use Rattle.std.specs.Prelude.{◌≡◌, ℕ, ◌+◌, ◌≤◌, ◌==◌, ◌&&◌, ◌||◌, Bool, true, false, not, nat_lt, if◌then◌else◌, List, length, take, slice_index, Option, Some, None}
 use Rattle.std.specs.List.{list_any}
-use Rattle.cb_tokens.specs.Forms.{is_quote, is_line_feed, punctuators, closes, stays_unclosed, ends_comment, has_comment_end}
+use Rattle.cb_lines.specs.Marks.{is_line_feed}
+use Rattle.cb_tokens.specs.Forms.{is_quote, punctuators, closes, stays_unclosed, ends_comment, has_comment_end}
+use Rattle.cb_tokens.specs.Cut.{NoneLonger}
 use Rattle.cb_tokens.specs.declared.token.TokenKind.{TokenKind}
 use Rattle.cb_tokens.specs.declared.token.TokenKind.TheVariants.{Char, Str}
 use Rattle.cb_tokens.specs.declared.quote.QuoteEnd.{QuoteEnd}
@@ -11,7 +13,7 @@ use Rattle.cb_tokens.specs.declared.quote.QuoteEnd.TheVariants.{Closed, Unclosed
 pub record IsLongest (form : List ℕ → Bool) (bytes : List ℕ) (n : ℕ) : Type 0 where
   pub within : n ≤ length bytes
   pub holds : form (take n bytes) ≡ true
-  pub longest : (m : ℕ) → m ≤ length bytes → form (take m bytes) ≡ true → m ≤ n
+  pub longest : NoneLonger form bytes n
 
 -- no prefix has the form (own)
 abbrev pub HasNone : (List ℕ → Bool) → List ℕ → Type 0
@@ -20,7 +22,7 @@ HasNone form bytes = (m : ℕ) → m ≤ length bytes → form (take m bytes) �
 -- where the quote ends that opened before the bytes, or else how far it goes on (own)
 abbrev pub EndsQuote : ℕ → List ℕ → QuoteEnd → Type 0
 EndsQuote quote bytes (Closed n) =
-    IsLongest (closes quote) bytes n × ((m : ℕ) → m ≤ length bytes → stays_unclosed quote (take m bytes) ≡ true → m ≤ n)
+    IsLongest (closes quote) bytes n × NoneLonger (stays_unclosed quote) bytes n
 EndsQuote quote bytes (Unclosed n) = IsLongest (stays_unclosed quote) bytes n × HasNone (closes quote) bytes
 
 -- the bytes of an escape at an index that ends no line, or 1 where there is none (own)

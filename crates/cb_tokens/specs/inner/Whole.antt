@@ -1,22 +1,16 @@
 -- What the recognisers of whole tokens answer.
 use Rattle.std.specs.Prelude.{◌≡◌, ℕ, true, false, List, Option, Some, None}
 use Rattle.cb_lines.specs.declared.mark.Mark.{Mark}
-use Rattle.cb_tokens.specs.Forms.{fits, closes, stays_unclosed}
+use Rattle.cb_tokens.specs.Forms.{fits}
 use Rattle.cb_tokens.specs.declared.token.TokenKind.{TokenKind}
 use Rattle.cb_tokens.specs.declared.token.PieceKind.TheVariants.{Token}
 use Rattle.cb_tokens.specs.declared.left.QuoteLeft.{QuoteLeft}
-use Rattle.cb_tokens.specs.declared.left.QuoteLeft.TheVariants as quote_left
+use Rattle.cb_tokens.specs.declared.left.QuoteLeft.TheVariants.{Closed}
 
 -- the kind of the token that the bytes are, or none (own)
 abbrev pub IsDecided : List ℕ → Option TokenKind → Type 0
 IsDecided bytes None = (kind : TokenKind) → fits (Token kind) bytes ≡ false
 IsDecided bytes (Some kind) = fits (Token kind) bytes ≡ true
-
--- how all that is left of a quote ends (own)
-abbrev pub EndsAs : ℕ → List ℕ → QuoteLeft → Type 0
-EndsAs quote bytes quote_left.Closed = closes quote bytes ≡ true
-EndsAs quote bytes quote_left.Unclosed = (closes quote bytes ≡ false) × (stays_unclosed quote bytes ≡ true)
-EndsAs quote bytes quote_left.Broken = (closes quote bytes ≡ false) × (stays_unclosed quote bytes ≡ false)
 
 -- the byte of a mark; 0 where there is none (own)
 abbrev pub byte_of : Option Mark → ℕ
@@ -25,6 +19,5 @@ byte_of (Some mark) = mark.byte
 
 -- the kind where the quote is closed (own)
 abbrev pub closed_as : QuoteLeft → TokenKind → Option TokenKind
-closed_as quote_left.Closed kind = Some kind
-closed_as quote_left.Unclosed kind = None
-closed_as quote_left.Broken kind = None
+closed_as Closed kind = Some kind
+closed_as _ kind = None

@@ -6,7 +6,7 @@ use Rattle.cb_tokens.specs.declared.class.Class.TheVariants as classes
 use Rattle.cb_tokens.specs.declared.first.First.TheVariants as first
 use Rattle.cb_tokens.specs.declared.token.PieceKind.TheVariants as kinds
 use Rattle.cb_tokens.specs.declared.token.TokenKind.TheVariants as tokens
-use Rattle.cb_tokens.specs.Forms.{fits, is_white, is_line_feed, is_name_start, is_prefix_letter, is_quote}
+use Rattle.cb_tokens.specs.Forms.{fits, is_white, is_name_start, is_prefix_letter, is_quote}
 use Rattle.cb_tokens.specs.inner.Classes.{class_of, BeginsIn}
 use Rattle.cb_tokens.specs.Cut.{StandsFirst}
 use Rattle.cb_tokens.proofs.Arms.{operator_stands}
@@ -15,7 +15,7 @@ use Rattle.cb_tokens.proofs.Punctuators.{longest_hash, longest_of_two}
 use Rattle.cb_tokens.proofs.plain.begins_with_hash.Goals as goal
 
 hash_class : class_of 35 ≡ classes.Operator
-unfolding class_of is_white is_line_feed is_name_start is_prefix_letter is_quote
+unfolding class_of is_white is_name_start is_prefix_letter is_quote
 hash_class = refl
 
 some : (bs : List ℕ) → get_or bs 0 0 ≡ 35 → 0 < length bs

@@ -3,14 +3,14 @@ use Rattle.std.proofs.lemmas.Slice.Eq.{bytes_eq-Decides}
 use Rattle.cb_tokens.specs.declared.class.Class.TheVariants as classes
 use Rattle.cb_tokens.specs.declared.first.First.TheVariants as first
 use Rattle.cb_tokens.specs.declared.token.PieceKind.TheVariants as kinds
-use Rattle.cb_tokens.specs.Forms.{fits, is_white, is_line_feed, is_name_start, is_prefix_letter, is_quote}
+use Rattle.cb_tokens.specs.Forms.{fits, is_white, is_name_start, is_prefix_letter, is_quote}
 use Rattle.cb_tokens.specs.inner.Classes.{class_of}
 use Rattle.cb_tokens.specs.Cut.{StandsFirst}
 use Rattle.cb_tokens.proofs.Arms.{line_end_stands}
 use Rattle.cb_tokens.proofs.plain.begins_with_line_end.Goals as goal
 
 feed_class : class_of 10 ≡ classes.LineFeed
-unfolding class_of is_white is_line_feed is_name_start is_prefix_letter is_quote
+unfolding class_of is_white is_name_start is_prefix_letter is_quote
 feed_class = refl
 
 no_other : (b : Bool) → (b ≡ false → ⊥) → b ≡ true

@@ -1,15 +1,13 @@
 use Rattle.std.proofs.Common.{◌≡◌, ℕ, true, false, not, ◌==◌, length, get_or, sym, refl, arith}
 use Rattle.std.proofs.lemmas.Bool.{false_from_ne_true}
 use Rattle.std.proofs.lemmas.List.Sums.{prefix_len_is}
-use Rattle.cb_tokens.specs.Forms.{is_line_feed}
+use Rattle.cb_lines.specs.Marks.{is_line_feed}
 use Rattle.cb_tokens.proofs.runs.line_len.Goals as goal
 
 goes : (b : ℕ) → ((b == 10) ≡ true → ⊥) → not (is_line_feed b) ≡ true
-unfolding is_line_feed
 goes b h = rw (false_from_ne_true (b == 10) h) refl
 
 stops : (b : ℕ) → (b == 10) ≡ true → not (is_line_feed b) ≡ false
-unfolding is_line_feed
 stops b h = rw h refl
 
 pub returns-in-Some : goal.returns-in-Some
