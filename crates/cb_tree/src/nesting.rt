@@ -2,7 +2,7 @@
 ghost use Rattle.std.specs.Prelude.{◌≡◌, ◌<◌, ◌≤◌, ◌∷◌, ◌++◌, [], length, take, drop, None, IfOk, OnOk};
 ghost use Rattle.cb_tree.specs.Nesting.{places_of, places_from};
 ghost use Rattle.cb_tree.specs.inner.Frames.{section_places, inner_places};
-ghost use Rattle.cb_tree.specs.inner.Frames.{Puts, group_ended, AreStacked, Places, MayStand, IsPlaced};
+ghost use Rattle.cb_tree.specs.inner.Frames.{Puts, group_ended, AreStacked, MayStand, IsPlaced};
 ghost use Rattle.cb_tree.specs.Groups.{kinds_of};
 ghost use Rattle.cb_tree.specs.Sections.{first_fault};
 
@@ -82,7 +82,7 @@ fn end_group(parts: &mut Vec<Part>, groups: &mut Vec<Group>, frame: Frame) -> Re
 /// Places a node that stands within a group.
 fn stay(nesting: &mut Nesting, node: u32) -> Result<(), NoMemory>
     requires { AreStacked nesting.old }
-    ensures { OnOk result (Places nesting.old Role.Within node 0 0 nesting.new) }
+    ensures { OnOk result (IsPlaced nesting.old Role.Within node nesting.new) }
 {
     push_plain(&mut nesting.parts, node)?;
     Ok(())
@@ -91,7 +91,7 @@ fn stay(nesting: &mut Nesting, node: u32) -> Result<(), NoMemory>
 /// Places a node that opens a section.
 fn open_section(nesting: &mut Nesting, node: u32) -> Result<(), NoMemory>
     requires { AreStacked nesting.old }
-    ensures { OnOk result (Places nesting.old Role.Opens node 0 1 nesting.new) }
+    ensures { OnOk result (IsPlaced nesting.old Role.Opens node nesting.new) }
 {
     nesting.frames.push(Frame {
         parts: nesting.parts.len(),
@@ -105,7 +105,7 @@ fn open_section(nesting: &mut Nesting, node: u32) -> Result<(), NoMemory>
 fn turn_section(nesting: &mut Nesting, node: u32) -> Result<(), NoMemory>
     requires stacked { AreStacked nesting.old }
     requires open_one { 0 < length nesting.old.frames.items }
-    ensures { OnOk result (Places nesting.old Role.Turns node 0 0 nesting.new) }
+    ensures { OnOk result (IsPlaced nesting.old Role.Turns node nesting.new) }
 {
     let Some(frame) = nesting.frames.pop() else {
         unreachable!()
@@ -123,7 +123,7 @@ fn turn_section(nesting: &mut Nesting, node: u32) -> Result<(), NoMemory>
 fn close_section(nesting: &mut Nesting, node: u32) -> Result<(), NoMemory>
     requires stacked { AreStacked nesting.old }
     requires open_one { 0 < length nesting.old.frames.items }
-    ensures { OnOk result (Places nesting.old Role.Closes node 1 0 nesting.new) }
+    ensures { OnOk result (IsPlaced nesting.old Role.Closes node nesting.new) }
 {
     let Some(frame) = nesting.frames.pop() else {
         unreachable!()

@@ -51,12 +51,6 @@ pub record Puts {X Y : Type 0} (read : List X → List Y) (old : List X) (values
   pub reads : read more ≡ values
   pub pushed : new ≡ old ++ more
 
--- one more node is placed, and so many sections fewer and then more are open
-pub record Places (old : Nesting) (role : Role) (node less more : ℕ) (new : Nesting) : Type 0 where
-  pub places : nested_places new ≡ nested_places old ++ record { role = role; node = node } ∷ []
-  pub depth : length new.frames.items + less ≡ length old.frames.items + more
-  pub stacked : AreStacked new
-
 -- a node of the role may stand where so many sections are open
 abbrev pub MayStand : Role → ℕ → Type 0
 MayStand role.Within depth = Unit {0}
