@@ -20,6 +20,7 @@ pub mod Turns
 pub mod GroupEnds
 pub mod Nested
 pub mod FrameSteps
+pub mod OneNesting
 pub mod NestSteps
 pub mod EveryEnd
 pub mod LineMarks

@@ -11,7 +11,7 @@ pub joined_places : (ps : List Part) → joined (map places_in ps) ≡ places_of
 joined_places [] = refl
 joined_places (p ∷ ps) = ap (λ x. places_in p ++ x) (joined_places ps)
 
-group_is : (head : ℕ) (parts : List Part)
+pub group_is : (head : ℕ) (parts : List Part)
     → fold-Group (List Placed) GroupPlaces (List Placed) part_step group_step section_step (roll-Group (record { head = head; parts = parts }))
     ≡ record { head = head; inner = places_of parts }
 group_is head parts =

@@ -30,9 +30,9 @@ abbrev pub later_places : List GroupPlaces → List Placed
 later_places [] = []
 later_places (g ∷ gs) = record { role = role.Turns; node = g.head } ∷ (g.inner ++ later_places gs)
 
--- the nodes of a section's groups (own)
+-- the nodes of a section's groups; one without a group would open at node 0, which is none (own)
 abbrev pub group_places : List GroupPlaces → List Placed
-group_places [] = []
+group_places [] = record { role = role.Opens; node = 0 } ∷ []
 group_places (g ∷ gs) = record { role = role.Opens; node = g.head } ∷ (g.inner ++ later_places gs)
 
 -- lists, one after another (own)

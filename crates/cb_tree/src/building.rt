@@ -1,6 +1,6 @@
 //! From a source to its tree.
-ghost use Rattle.std.specs.Prelude.{List, ℕ, ◌≡◌, ◌⊎◌, ◌≤◌, length, [], None, IfOk, IfErr};
-ghost use Rattle.cb_tree.specs.Sound.{IsRead, Reading, Sound, Unsound};
+ghost use Rattle.std.specs.Prelude.{List, ◌≡◌, ◌⊎◌, ◌≤◌, length, [], None, IfOk, IfErr};
+ghost use Rattle.cb_tree.specs.Sound.{IsRead, Sound, Unsound};
 ghost use Rattle.cb_tree.specs.Nodes.{Node, AreCounted};
 ghost use Rattle.cb_tree.specs.Sections.{first_fault};
 ghost use Rattle.cb_tree.specs.inner.Reads.{IsReadAs};
@@ -8,13 +8,13 @@ ghost use Rattle.cb_tree.specs.declared.fault.BadSource.{BadSource as Fault};
 
 use crate::fault::BuildFault;
 use crate::groups::group_ends;
+use crate::laws::{every_reading, one_reading};
 use crate::nesting::nest;
 use crate::nodes::Nodes;
 use crate::sequence::read_nodes;
 use crate::size::check_size;
 use crate::tree::Tree;
 use cb_lines::{Walk, marks};
-use cb_tokens::{one_cut, some_cut};
 use std::alloc::Global;
 
 /// The nodes of a source.
@@ -31,21 +31,6 @@ fn read_source(alloc: Global, source: &[u8]) -> Result<Nodes, BuildFault>
     let nodes = read_nodes(alloc, &mut walk)?;
     every_reading();
     Ok(nodes)
-}
-
-/// A source is read in one way: as the nodes of its one cut, or as its first fault.
-pub fn one_reading()
-    ensures { (source : List ℕ) (a b : Reading) → IsRead source a → IsRead source b → a ≡ b }
-{
-    one_cut();
-}
-
-/// Every source has a reading, and the nodes of a sound one are counted: each has a line, and no line stands in two.
-pub fn every_reading()
-    ensures some { (source : List ℕ) → (reading : Reading) × IsRead source reading }
-    ensures counted { (source : List ℕ) (nodes : List Node) → IsRead source (Sound nodes) → AreCounted nodes }
-{
-    some_cut();
 }
 
 /// The tree of a sound source. Else it is `Bad` with the first fault; where memory runs out it is `NoMemory`.

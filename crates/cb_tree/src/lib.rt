@@ -7,6 +7,7 @@ mod fault;
 mod groups;
 mod hash;
 mod kind;
+mod laws;
 mod nesting;
 mod node;
 mod nodes;
@@ -22,8 +23,9 @@ mod skeleton;
 mod stretch;
 mod tree;
 
-pub use building::{build, every_reading, one_reading};
+pub use building::build;
 pub use fault::{BadSource, BuildFault, SourceKind};
+pub use laws::{every_reading, one_nesting, one_reading};
 pub use node::NodeKind;
 pub use part::{Group, Groups, Part, Parts, Section};
 pub use tree::Tree;

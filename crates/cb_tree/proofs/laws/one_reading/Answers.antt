@@ -1,5 +1,5 @@
 use Rattle.cb_tree.proofs.OneReading.{one_reading}
-use Rattle.cb_tree.proofs.building.one_reading.Goals as goal
+use Rattle.cb_tree.proofs.laws.one_reading.Goals as goal
 
 pub returns : goal.returns
 returns c =
