@@ -118,80 +118,72 @@ fn makes(
     Ok(has_spans(&made(alloc, way, some, others)?, wanted))
 }
 
+/// Two sets, and what they make, each by its spans.
+type Row<'a> = (Way, &'a [(u32, u32)], &'a [(u32, u32)], &'a [(u32, u32)]);
+
+const UNIONS: [Row<'static>; 3] = [
+    (Way::Union, &[(1, 1), (3, 3)], &[(2, 2)], &[(1, 3)]),
+    (
+        Way::Union,
+        &[(2, 2), (5, 5), (9, 9)],
+        &[(1, 1), (3, 3)],
+        &[(1, 3), (5, 5), (9, 9)],
+    ),
+    (Way::Union, &[], &[(9, 9)], &[(9, 9)]),
+];
+
+const DIFFERENCES: [Row<'static>; 5] = [
+    (
+        Way::Minus,
+        &[(1, 9)],
+        &[(2, 3), (6, 6)],
+        &[(1, 1), (4, 5), (7, 9)],
+    ),
+    (
+        Way::Minus,
+        &[(1, 4), (10, 19)],
+        &[(3, 12), (19, 40)],
+        &[(1, 2), (13, 18)],
+    ),
+    (Way::Minus, &[(5, 5)], &[], &[(5, 5)]),
+    (
+        Way::Minus,
+        &[(7, MAX)],
+        &[(8, MAX - 1)],
+        &[(7, 7), (MAX, MAX)],
+    ),
+    (Way::Minus, &[(3, 4)], &[(1, 9)], &[]),
+];
+
+const APPENDED: [Row<'static>; 3] = [
+    (
+        Way::Appended,
+        &[(2, 3)],
+        &[(4, 6), (8, 8)],
+        &[(2, 6), (8, 8)],
+    ),
+    (
+        Way::Appended,
+        &[],
+        &[(4, 6), (MAX, MAX)],
+        &[(4, 6), (MAX, MAX)],
+    ),
+    (Way::Appended, &[(5, 6)], &[(1, 1)], &[(1, 1), (5, 6)]),
+];
+
 #[test]
 fn two_sets_make_one(rt: HostRuntime) -> Result<(), Fail> {
-    for (way, some, others, wanted) in [
-        (
-            Way::Union,
-            [(1, 1), (3, 3)].as_slice(),
-            [(2, 2)].as_slice(),
-            [(1, 3)].as_slice(),
-        ),
-        (
-            Way::Union,
-            [(2, 2), (5, 5), (9, 9)].as_slice(),
-            [(1, 1), (3, 3)].as_slice(),
-            [(1, 3), (5, 5), (9, 9)].as_slice(),
-        ),
-        (
-            Way::Union,
-            [].as_slice(),
-            [(9, 9)].as_slice(),
-            [(9, 9)].as_slice(),
-        ),
-        (
-            Way::Minus,
-            [(1, 9)].as_slice(),
-            [(2, 3), (6, 6)].as_slice(),
-            [(1, 1), (4, 5), (7, 9)].as_slice(),
-        ),
-        (
-            Way::Minus,
-            [(1, 4), (10, 19)].as_slice(),
-            [(3, 12), (19, 40)].as_slice(),
-            [(1, 2), (13, 18)].as_slice(),
-        ),
-        (
-            Way::Minus,
-            [(5, 5)].as_slice(),
-            [].as_slice(),
-            [(5, 5)].as_slice(),
-        ),
-        (
-            Way::Minus,
-            [(7, MAX)].as_slice(),
-            [(8, MAX - 1)].as_slice(),
-            [(7, 7), (MAX, MAX)].as_slice(),
-        ),
-        (
-            Way::Minus,
-            [(3, 4)].as_slice(),
-            [(1, 9)].as_slice(),
-            [].as_slice(),
-        ),
-        (
-            Way::Appended,
-            [(2, 3)].as_slice(),
-            [(4, 6), (8, 8)].as_slice(),
-            [(2, 6), (8, 8)].as_slice(),
-        ),
-        (
-            Way::Appended,
-            [].as_slice(),
-            [(4, 6), (MAX, MAX)].as_slice(),
-            [(4, 6), (MAX, MAX)].as_slice(),
-        ),
-        (
-            Way::Appended,
-            [(5, 6)].as_slice(),
-            [(1, 1)].as_slice(),
-            [(1, 1), (5, 6)].as_slice(),
-        ),
+    for rows in [
+        UNIONS.as_slice(),
+        DIFFERENCES.as_slice(),
+        APPENDED.as_slice(),
     ] {
-        assert!(rt;
-            makes(rt.alloc(), way, some, others, wanted)?,
-            "{way:?} of {some:?} and {others:?}"
-        );
+        for (way, some, others, wanted) in rows {
+            assert!(rt;
+                makes(rt.alloc(), *way, some, others, wanted)?,
+                "{way:?} of {some:?} and {others:?}"
+            );
+        }
     }
     Ok(())
 }
