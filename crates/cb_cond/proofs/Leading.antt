@@ -1,21 +1,11 @@
 -- The digits at the front of a text.
-use Rattle.std.proofs.Common.{◌≡◌, ℕ, suc, ◌+◌, ◌-◌, ◌*◌, ◌<◌, ◌≤◌, Bool, true, false, List, [], ◌∷◌, length, length-drop, get_or, take, drop, map, refl, ap, sym, ◌∙◌, arith, eqb, eqb-true}
-use Rattle.std.specs.List.{prefix_len, range_with_len}
+use Rattle.std.proofs.Common.{◌≡◌, ℕ, suc, ◌+◌, ◌-◌, ◌*◌, ◌<◌, ◌≤◌, Bool, true, false, List, [], ◌∷◌, length, length-drop, get_or, take, drop, refl, ap, sym, ◌∙◌, arith, eqb, eqb-true}
+use Rattle.std.specs.List.{prefix_len}
 use Rattle.std.proofs.lemmas.Bool.Decides.{nat_tests}
 use Rattle.std.proofs.lemmas.List.{take_all, get_or-take, length-take-le}
-use Rattle.std.proofs.lemmas.List.FromFn.{get_or-map-range_with_len}
 use Rattle.std.proofs.lemmas.List.Sums.{prefix_len_is, prefix_len_passes, prefix_len_stops, prefix_len-drop_yes, prefix_len-drop_no, prefix_len-le-length}
-use Rattle.cb_cond.specs.declared.integers.TheConstants.{DIGITS}
 use Rattle.cb_cond.specs.Integers.{digit_value, is_digit, are_digits, next_amount, amount, is_digit_byte}
 use Rattle.cb_cond.proofs.Digits.{amount-next}
-
-all-digits : DIGITS ≡ map digit_value (range_with_len 0 256)
-unfolding digit_value
-all-digits = refl
-
--- the table of bytes is held against the values by computing
-pub digit : (b d : ℕ) → b < 256 → get_or DIGITS b d ≡ digit_value b
-digit b d below = ap (λ values. get_or values b d) all-digits ∙ get_or-map-range_with_len digit_value 0 256 b b d below (omega arith)
 
 pub digit-small : (b : ℕ) → digit_value b ≤ 16
 unfolding digit_value

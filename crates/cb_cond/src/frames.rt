@@ -109,17 +109,24 @@ impl Position {
     }
 }
 
-// The level of each operator, in the order of their declaration. A look-up costs the same for each, where the branches of a
-// `match` are mispredicted.
-static LEVELS: [u8; 18] = [2, 3, 4, 5, 6, 7, 7, 8, 8, 8, 8, 9, 9, 10, 10, 11, 11, 11];
-
 /// The level of an operator's production: the tighter it binds, the higher.
 #[inline(always)]
 #[tactic(auto, unfolding(crate::specs::Grammar::level))]
 fn level_of(operator: Operator) -> u8
     ensures { result ≡ level operator }
 {
-    LEVELS[operator as usize]
+    match operator {
+        Operator::Or => 2,
+        Operator::And => 3,
+        Operator::BitOr => 4,
+        Operator::BitXor => 5,
+        Operator::BitAnd => 6,
+        Operator::Equal | Operator::Unequal => 7,
+        Operator::Less | Operator::Greater | Operator::AtMost | Operator::AtLeast => 8,
+        Operator::ShiftLeft | Operator::ShiftRight => 9,
+        Operator::Add | Operator::Subtract => 10,
+        Operator::Multiply | Operator::Divide | Operator::Remainder => 11,
+    }
 }
 
 impl Frame {

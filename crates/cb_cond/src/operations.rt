@@ -146,26 +146,31 @@ fn binary_result(operator: Operator, a: Meaning, b: Meaning) -> Value
     operate(operator, a.unsigned, b.unsigned, left, right)
 }
 
-// Whether the left operand's type goes into that of the result, for each operator in the order of their declaration. A look-up
-// costs the same for each, where the branches of a `match` are mispredicted.
-static BY_LEFT: [bool; 18] = [
-    false, false, true, true, true, false, false, false, false, false, false, true, true, true,
-    true, true, true, true,
-];
-
-// The same for the right operand's type.
-static BY_RIGHT: [bool; 18] = [
-    false, false, true, true, true, false, false, false, false, false, false, false, false, true,
-    true, true, true, true,
-];
-
 /// Whether an operator's result is unsigned.
 #[inline(always)]
 #[tactic(auto, unfolding(crate::specs::Values::result_is_unsigned))]
 fn is_result_unsigned(operator: Operator, a: bool, b: bool) -> bool
     ensures { result ≡ result_is_unsigned operator a b }
 {
-    (BY_LEFT[operator as usize] & a) | (BY_RIGHT[operator as usize] & b)
+    match operator {
+        Operator::Or
+        | Operator::And
+        | Operator::Equal
+        | Operator::Unequal
+        | Operator::Less
+        | Operator::Greater
+        | Operator::AtMost
+        | Operator::AtLeast => false,
+        Operator::ShiftLeft | Operator::ShiftRight => a,
+        Operator::BitOr
+        | Operator::BitXor
+        | Operator::BitAnd
+        | Operator::Add
+        | Operator::Subtract
+        | Operator::Multiply
+        | Operator::Divide
+        | Operator::Remainder => a || b,
+    }
 }
 
 /// The meaning of a binary operator's result.
