@@ -42,7 +42,7 @@ unsigned_suffixes =
     ∷ codes "ul" ∷ codes "uL" ∷ codes "Ul" ∷ codes "UL" ∷ codes "ull" ∷ codes "uLL" ∷ codes "Ull" ∷ codes "ULL"
     ∷ codes "lu" ∷ codes "Lu" ∷ codes "lU" ∷ codes "LU" ∷ codes "llu" ∷ codes "LLu" ∷ codes "llU" ∷ codes "LLU" ∷ []
 
--- the text is in the list
+-- the text is in the list (own)
 unfoldable pub is_among : List (List ℕ) → List ℕ → Bool
 is_among texts text = list_any (λ t. bytes_eq text t) texts
 
@@ -70,7 +70,7 @@ with_suffix base digits suffix =
     else (if is_among unsigned_suffixes suffix then number (amount base digits) true else Stray))
     else Stray
 
--- a byte of the digits: a digit of the base, or a '
+-- a byte of the digits: a digit of the base, or a ' (6.4.4.1; own)
 unfoldable pub is_digit_byte : ℕ → ℕ → Bool
 is_digit_byte base byte = is_digit base byte || (byte == 39)
 
@@ -107,11 +107,3 @@ pub record IsInteger (text : List ℕ) (n : ℕ) (unsigned : Bool) : Type 0 wher
   pub in_base : are_digits base false digits ≡ true
   pub suffixed : is_among (suffixes unsigned) suffix ≡ true
   pub value : n ≡ amount base digits
-
--- each integer is read as its number
-abbrev pub ReadsEachInteger : Type 0
-ReadsEachInteger = (text : List ℕ) (n : ℕ) (unsigned : Bool) → IsInteger text n unsigned → integer text ≡ number n unsigned
-
--- nothing else is read as a number
-abbrev pub ReadsOnlyIntegers : Type 0
-ReadsOnlyIntegers = (text : List ℕ) → (integer text ≡ Stray) ⊎ ((n : ℕ) × (unsigned : Bool) × IsInteger text n unsigned)

@@ -29,9 +29,7 @@ result_is_unsigned _ a b = a || b
 -- the type of a result of an operator before its operand (6.5.3.3)
 unfoldable pub prefix_is_unsigned : Prefix → Bool → Bool
 prefix_is_unsigned Not a = false
-prefix_is_unsigned Complement a = a
-prefix_is_unsigned Plus a = a
-prefix_is_unsigned Minus a = a
+prefix_is_unsigned _ a = a
 
 -- 1 where it holds, else 0 (6.5.8, paragraph 6)
 unfoldable pub truth : Bool → Value
@@ -124,14 +122,14 @@ prefix_value Minus a = Bits (2 ^ 64 - a)
 unfoldable pub chosen_value : Value → Value → Value → Value
 chosen_value a b c = after_left a (λ m. if m == 0 then c else b)
 
--- the meaning of an operator's result
+-- the meaning of an operator's result (6.5.5 to 6.5.14)
 unfoldable pub binary : Operator → Meaning → Meaning → Meaning
 binary o a b = record {
   unsigned = result_is_unsigned o a.unsigned b.unsigned;
   value = wrapped (binary_value o a.unsigned b.unsigned a.value b.value);
 }
 
--- the meaning of the result of an operator before its operand
+-- the meaning of the result of an operator before its operand (6.5.3.3)
 unfoldable pub unary : Prefix → Meaning → Meaning
 unary p a = record { unsigned = prefix_is_unsigned p a.unsigned; value = wrapped (after_left a.value (prefix_value p)) }
 

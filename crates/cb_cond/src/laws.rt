@@ -1,12 +1,13 @@
 //! Laws of conditions.
-ghost use Rattle.std.specs.Prelude.{◌≡◌, Bool, List, Result};
+ghost use Rattle.std.specs.Prelude.{◌≡◌, ◌⊎◌, ℕ, Bool, List, Result};
 ghost use Rattle.cb_paths.specs.declared.language.Language.{Language as Tongue};
 ghost use Rattle.cb_tokens.specs.declared.token.Token.{Token};
 ghost use Rattle.cb_cond.specs.declared.bad_condition.BadCondition.{BadCondition};
-ghost use Rattle.cb_cond.specs.Integers.{ReadsEachInteger, ReadsOnlyIntegers};
+ghost use Rattle.cb_cond.specs.Integers.{IsInteger, integer, number};
 ghost use Rattle.cb_cond.specs.Grammar.{Expression, IsCondition};
 ghost use Rattle.cb_cond.specs.Symbols.{symbols};
 ghost use Rattle.cb_cond.specs.Faults.{IsAnswer};
+ghost use Rattle.cb_cond.specs.declared.symbol.Symbol.TheVariants as Symbol;
 
 /// A condition has one syntax tree at most, and one answer. Each integer of the grammar is read with its value, and nothing else is
 /// read as one.
@@ -16,6 +17,8 @@ pub fn one_condition()
         → IsCondition (symbols language tokens) a → IsCondition (symbols language tokens) b → a ≡ b }
     ensures answer { (language : Tongue) (tokens : List Token) (a b : Result Bool BadCondition)
         → IsAnswer (symbols language tokens) a → IsAnswer (symbols language tokens) b → a ≡ b }
-    ensures each_integer { ReadsEachInteger }
-    ensures only_integers { ReadsOnlyIntegers }
+    ensures each_integer { (text : List ℕ) (n : ℕ) (unsigned : Bool)
+        → IsInteger text n unsigned → integer text ≡ number n unsigned }
+    ensures only_integers { (text : List ℕ)
+        → (integer text ≡ Symbol.Stray) ⊎ ((n : ℕ) × (unsigned : Bool) × IsInteger text n unsigned) }
 {}
