@@ -9,7 +9,7 @@ use Rattle.cb_tree.specs.declared.role.Role.TheVariants as role
 use Rattle.cb_tree.specs.declared.sections.OpenSection.{OpenSection}
 use Rattle.cb_tree.specs.Nodes.{Node}
 use Rattle.cb_tree.specs.Sections.{fault_at_end, first_fault}
-use Rattle.cb_tree.specs.Groups.{kinds_of, turn_by, turn_at, next_turn, end_behind, group_end_of}
+use Rattle.cb_tree.specs.Groups.{kinds_of, turn_by, next_turn, end_behind, group_end_of}
 use Rattle.cb_tree.specs.Roles.{role_of, begins_group, opens_group}
 use Rattle.cb_tree.specs.inner.Frames.{MayStand, depth_after}
 use Rattle.cb_tree.proofs.NestSteps.{Stands, goes}
@@ -32,7 +32,7 @@ turn_some_by role.Turns node behind depth before after s w h = chosen_some (dept
 turn_some_by role.Closes node behind depth before after s w h = closed_some depth node behind before after s w h
 
 turn_some : (kind : NodeKind) (node : ℕ) (behind : ℕ → Option ℕ) (depth : ℕ) (before after : List OpenSection) → Stands kind before after
-    → ((d : ℕ) → d < length after → IsSome (behind d)) → depth < length before → IsSome (turn_at kind node behind depth)
+    → ((d : ℕ) → d < length after → IsSome (behind d)) → depth < length before → IsSome (turn_by (role_of kind) node behind depth)
 turn_some kind node behind depth before after s = turn_some_by (role_of kind) node behind depth before after s.depth
 
 none_open : (sections : List OpenSection) (depth : ℕ) → fault_at_end sections ≡ None → depth < length sections → ⊥

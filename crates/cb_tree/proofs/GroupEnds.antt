@@ -8,7 +8,7 @@ use Rattle.cb_tree.specs.declared.node.NodeKind.{NodeKind}
 use Rattle.cb_tree.specs.declared.role.Role.{Role}
 use Rattle.cb_tree.specs.declared.role.Role.TheVariants as role
 use Rattle.cb_tree.specs.inner.Trees.{entry_of}
-use Rattle.cb_tree.specs.Groups.{kinds_of, end_behind, group_end_of, turn_by, turn_at, next_turn}
+use Rattle.cb_tree.specs.Groups.{kinds_of, end_behind, group_end_of, turn_by, next_turn}
 use Rattle.cb_tree.specs.Roles.{role_of, opens_group}
 use Rattle.cb_tree.specs.inner.Trees.{ends_from}
 
@@ -61,7 +61,7 @@ turn_within_by role.Closes node behind depth e n w h = chosen_within (depth == 0
 
 turn_within : (kind : NodeKind) (node : ℕ) (behind : ℕ → Option ℕ) (depth e n : ℕ)
     → ((d : ℕ) → behind d ≡ Some e → (node + 1 ≤ e) × (e < node + 1 + n))
-    → turn_at kind node behind depth ≡ Some e → (node ≤ e) × (e < node + suc n)
+    → turn_by (role_of kind) node behind depth ≡ Some e → (node ≤ e) × (e < node + suc n)
 turn_within kind = turn_within_by (role_of kind)
 
 next_within : (kinds : List NodeKind) (node depth e : ℕ) → next_turn kinds node depth ≡ Some e → (node ≤ e) × (e < node + length kinds)

@@ -1,13 +1,14 @@
 -- The nodes of parts and groups.
 use Rattle.std.proofs.Common.{◌≡◌, ℕ, List, [], ◌∷◌, ◌++◌, map, refl, ap, ◌∙◌}
+use Rattle.std.specs.List.{flat_map}
 use Rattle.cb_tree.specs.declared.part.Part.{Part}
 use Rattle.cb_tree.specs.declared.part.Part.TheViews.{roll-Group}
 use Rattle.cb_tree.specs.declared.part.Part.TheFolds.{fold-Group, fold-roll-Group}
-use Rattle.cb_tree.specs.Nesting.{Placed, GroupPlaces, part_step, group_step, section_step, joined, places_in, places_of}
+use Rattle.cb_tree.specs.Nesting.{Placed, GroupPlaces, part_step, group_step, section_step, places_in, places_of}
 use Rattle.cb_tree.specs.inner.Frames.{inner_places}
 
 -- the nodes of parts, list by list
-pub joined_places : (ps : List Part) → joined (map places_in ps) ≡ places_of ps
+pub joined_places : (ps : List Part) → flat_map (λ (l : List Placed). l) (map places_in ps) ≡ places_of ps
 joined_places [] = refl
 joined_places (p ∷ ps) = ap (λ x. places_in p ++ x) (joined_places ps)
 

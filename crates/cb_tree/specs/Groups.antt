@@ -18,14 +18,10 @@ turn_by role.Opens node behind depth = behind (depth + 1)
 turn_by role.Turns node behind depth = if depth == 0 then Some node else behind depth
 turn_by role.Closes node behind depth = if depth == 0 then Some node else behind (depth - 1)
 
--- the same of a node of this kind (6.10.1)
-abbrev pub turn_at : NodeKind → ℕ → (ℕ → Option ℕ) → ℕ → Option ℕ
-turn_at kind = turn_by (role_of kind)
-
 -- the number of the next #elif, #else or #endif of a section among nodes of these kinds, which are numbered from here on (6.10.1)
 abbrev pub next_turn : List NodeKind → ℕ → ℕ → Option ℕ
 next_turn [] node depth = None
-next_turn (kind ∷ kinds) node depth = turn_at kind node (next_turn kinds (node + 1)) depth
+next_turn (kind ∷ kinds) node depth = turn_by (role_of kind) node (next_turn kinds (node + 1)) depth
 
 -- the number of the node that ends the group which this node begins, none where it begins none (6.10.1)
 abbrev pub end_behind : Option NodeKind → List NodeKind → ℕ → Option ℕ

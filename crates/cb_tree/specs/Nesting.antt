@@ -35,10 +35,6 @@ abbrev pub group_places : List GroupPlaces → List Placed
 group_places [] = record { role = role.Opens; node = 0 } ∷ []
 group_places (g ∷ gs) = record { role = role.Opens; node = g.head } ∷ (g.inner ++ later_places gs)
 
--- lists, one after another (own)
-abbrev pub joined : List (List Placed) → List Placed
-joined lists = flat_map (λ l. l) lists
-
 -- one part, with the nodes of what it holds in their places (own)
 abbrev pub part_step : Part-F (List Placed) GroupPlaces (List Placed) → List Placed
 part_step (layer.Plain node) = record { role = role.Within; node = node } ∷ []
@@ -46,7 +42,7 @@ part_step (layer.Section places) = places
 
 -- one group (own)
 abbrev pub group_step : Group-F (List Placed) GroupPlaces (List Placed) → GroupPlaces
-group_step g = record { head = g.head; inner = joined g.parts }
+group_step g = record { head = g.head; inner = flat_map (λ places. places) g.parts }
 
 -- one section (own)
 abbrev pub section_step : Section-F (List Placed) GroupPlaces (List Placed) → List Placed
