@@ -23,7 +23,7 @@ pub fn every_reading()
     some_cut();
 }
 
-/// Nodes are nested in one way at most: parts in which these nodes stand in order, each in its role, are the same parts.
+/// Nodes are nested in one way at most: parts in which these nodes stand in order, each in its role, are the same.
 pub fn one_nesting()
     ensures { (nodes : List Node) (a b : List Part) → places_of a ≡ places_from 1 (kinds_of nodes)
         → places_of b ≡ places_from 1 (kinds_of nodes) → a ≡ b }

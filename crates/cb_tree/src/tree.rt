@@ -98,8 +98,8 @@ impl Tree {
         end_by_entry(ends[node as usize - 1])
     }
 
-    /// The nodes in order, nested as their if sections. Read from front to back they are all nodes, each once and in its role, and
-    /// each section has a group at least: by `one_nesting` no other parts are so.
+    /// The nodes in order, nested as their if sections. Read from front to back they are all nodes, each once and in its
+    /// role, and each section has a group at least: by `one_nesting` no other parts are so.
     pub fn parts(&self) -> &[Part]
         ensures places { places_of result.now ≡ places_from 1 (kinds_of self.now) }
         ensures sound { first_fault self.now [] ≡ None }
