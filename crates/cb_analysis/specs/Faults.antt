@@ -59,6 +59,11 @@ text_at (Some place) text = place ++ codes ": " ++ text
 abbrev pub bad_text : BadAnalysis → List ℕ
 bad_text bad = text_at (place_shown bad.place) (kind_text bad.kind)
 
+-- what a refusal prints (own)
+abbrev pub refusal_text : AnalysisFault → List ℕ
+refusal_text (Bad bad) = bad_text bad
+refusal_text NoMemory = codes "out of memory"
+
 -- the first fault of a list of possible ones
 abbrev pub first_of : List (Option BadAnalysis) → Option BadAnalysis
 first_of [] = None

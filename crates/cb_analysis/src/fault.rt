@@ -4,8 +4,8 @@ ghost use Rattle.cb_analysis.specs.Faults.{kind_number, kind_name, kind_text, pl
 
 use cb_paths::{Bytes, NoMemory};
 use std::alloc::AllocFailed;
+use std::error::Error;
 use std::fmt;
-use thiserror::Error;
 
 /// What is wrong with an analysis.
 #[derive(Clone, Copy, Debug, PartialEq, Eq)]
@@ -88,7 +88,7 @@ impl fmt::Display for AnalysisKind {
     }
 }
 
-impl std::error::Error for AnalysisKind {}
+impl Error for AnalysisKind {}
 
 /// The first fault of an analysis.
 #[derive(Drop)]
@@ -140,15 +140,29 @@ impl fmt::Debug for BadAnalysis {
 }
 
 /// Why an analysis is not read.
-#[derive(Debug, Drop, Error)]
+#[derive(Debug, Drop)]
 pub enum AnalysisFault {
     /// The file is no analysis.
-    #[error("{0}")]
     Bad(BadAnalysis),
     /// There was not enough memory.
-    #[error("out of memory")]
     NoMemory,
 }
+
+impl fmt::Display for AnalysisFault {
+    ghost use Rattle.std.specs.Prelude.{Some};
+    ghost use Rattle.cb_analysis.specs.Faults.{refusal_text};
+
+    ghost output = { λ fault. Some (refusal_text fault) };
+
+    fn fmt<W: fmt::Write>(&self, f: &mut fmt::Formatter<W>) -> fmt::Result {
+        match self {
+            AnalysisFault::Bad(bad) => write!(f, "{bad}"),
+            AnalysisFault::NoMemory => f.write_str("out of memory"),
+        }
+    }
+}
+
+impl Error for AnalysisFault {}
 
 impl From<NoMemory> for AnalysisFault {
     ghost use Rattle.std.specs.Prelude.{◌≡◌};
