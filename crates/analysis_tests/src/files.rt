@@ -223,84 +223,89 @@ fn faults_are_told(rt: HostRuntime) -> Result<(), Fail> {
     for (text, kind, place) in FAULTS {
         assert!(rt; tells(rt.alloc(), text.as_bytes(), kind, place)?, "{text}");
     }
+    Ok(())
+}
+
+#[test]
+fn other_bytes_than_utf_8_are_refused(rt: HostRuntime) -> Result<(), Fail> {
     assert!(rt; tells(rt.alloc(), b"platform.a.commands = '\xff'", "NotToml", "")?);
     Ok(())
 }
 
-/// An analysis with so many platforms, of which the first has a bad name, and so many patterns, of which the last is
-/// bad.
+/// An analysis with so many platforms beside another one, so many patterns before another one, and this for `skip`.
 fn large(
     alloc: Global,
-    platforms: usize,
-    first: &str,
-    patterns: usize,
-    last: &str,
+    counts: (usize, usize),
+    platform: &str,
+    pattern: &str,
+    skip: &str,
 ) -> Result<String, AllocError> {
     let mut text = String::new(alloc);
-    for at in 1..platforms {
+    for at in 0..counts.0 {
         text.push_str(format!(in alloc; "platform.n{at}.commands = 'a'\n")?.as_str())?;
     }
-    text.push_str(first)?;
+    text.push_str(platform)?;
     text.push_str("\n[codebase]\nexclude = [")?;
-    for _ in 1..patterns {
+    for _ in 0..counts.1 {
         text.push_str("'a', ")?;
     }
-    text.push_str(last)?;
-    text.push_str("]\nskip = 1\n")?;
+    text.push_str(pattern)?;
+    text.push_str("]\nskip = ")?;
+    text.push_str(skip)?;
     Ok(text)
 }
 
-/// Whether a large analysis has this first fault.
-fn large_tells(
-    alloc: Global,
-    counts: (usize, usize),
-    first: &str,
-    last: &str,
-    kind: &str,
-    place: &str,
-) -> Result<bool, NoMemory> {
-    let text = large(alloc, counts.0, first, counts.1, last)?;
+/// Whether a large analysis has this first fault, or none where the kind is empty.
+fn large_tells(alloc: Global, row: &LargeRow) -> Result<bool, NoMemory> {
+    let (counts, platform, pattern, skip, kind, place) = *row;
+    let text = large(alloc, counts, platform, pattern, skip)?;
     tells(alloc, text.as_bytes(), kind, place)
 }
 
+/// The numbers of the other platforms and patterns, one more platform and pattern, what stands at `skip`, and the fault.
+type LargeRow = (
+    (usize, usize),
+    &'static str,
+    &'static str,
+    &'static str,
+    &'static str,
+    &'static str,
+);
+
+/// A platform without a fault.
+const FINE: &str = "platform.a.commands = 'a'";
+
+/// Each limit as it stands, which is accepted, and one above it.
+const LARGE: [LargeRow; 9] = [
+    ((31, 0), FINE, "", "[]", "", ""),
+    ((32, 0), FINE, "", "[]", "TooMany", "platform"),
+    (
+        (31, 0),
+        "platform.'a,' = 1",
+        "",
+        "1",
+        "BadName",
+        "platform.a,",
+    ),
+    ((32, 0), "platform.'a,' = 1", "", "1", "TooMany", "platform"),
+    ((31, 999), FINE, "'a'", "[]", "", ""),
+    ((31, 999), FINE, "'a'", "1", "WrongType", "codebase.skip"),
+    (
+        (31, 999),
+        FINE,
+        "'!'",
+        "1",
+        "BadPattern",
+        "codebase.exclude.999",
+    ),
+    ((31, 1000), FINE, "'!'", "1", "TooMany", "codebase.exclude"),
+    ((31, 1000), FINE, "1", "1", "WrongType", "codebase.exclude"),
+];
+
 #[test]
 fn limits_hold(rt: HostRuntime) -> Result<(), Fail> {
-    for (counts, first, last, kind, place) in [
-        ((33, 1), "platform.'a,' = 1", "", "TooMany", "platform"),
-        ((32, 1), "platform.'a,' = 1", "", "BadName", "platform.a,"),
-        (
-            (32, 1000),
-            "platform.a.commands = 'a'",
-            "'a'",
-            "WrongType",
-            "codebase.skip",
-        ),
-        (
-            (32, 1000),
-            "platform.a.commands = 'a'",
-            "'!'",
-            "BadPattern",
-            "codebase.exclude.999",
-        ),
-        (
-            (32, 1001),
-            "platform.a.commands = 'a'",
-            "'!'",
-            "TooMany",
-            "codebase.exclude",
-        ),
-        (
-            (32, 1001),
-            "platform.a.commands = 'a'",
-            "1",
-            "WrongType",
-            "codebase.exclude",
-        ),
-    ] {
-        assert!(rt;
-            large_tells(rt.alloc(), counts, first, last, kind, place)?,
-            "{kind} {place}"
-        );
+    for row in LARGE {
+        assert!(rt; large_tells(rt.alloc(), &row)?, "{} {}", row.4, row.5);
     }
     Ok(())
 }
@@ -360,7 +365,7 @@ fn prints(alloc: Global, text: &str, wanted: &str) -> Result<bool, AllocError> {
 }
 
 #[test]
-fn kinds_have_numbers_and_texts(rt: HostRuntime) -> Result<(), Fail> {
+fn kinds_have_numbers_and_names(rt: HostRuntime) -> Result<(), Fail> {
     for (kind, number, name) in [
         (AnalysisKind::NotToml, 1, "NotToml"),
         (AnalysisKind::NoPlatform, 2, "NoPlatform"),
@@ -373,6 +378,11 @@ fn kinds_have_numbers_and_texts(rt: HostRuntime) -> Result<(), Fail> {
     ] {
         assert!(rt; kind.number() == number && kind.name() == name, "{name}");
     }
+    Ok(())
+}
+
+#[test]
+fn faults_print_their_places(rt: HostRuntime) -> Result<(), Fail> {
     for (text, wanted) in [
         ("[", "the file is no TOML document"),
         (

@@ -110,13 +110,18 @@ fn matches(alloc: Global, pattern: &str, path: &str, wanted: bool) -> Result<boo
 }
 
 #[test]
-fn patterns_match(rt: HostRuntime) -> Result<(), Fail> {
+fn patterns_match_as_in_git(rt: HostRuntime) -> Result<(), Fail> {
     for (pattern, path, wanted) in LIKE_GIT {
         assert!(rt;
             matches(rt.alloc(), pattern, path, wanted)?,
             "{pattern} {path}"
         );
     }
+    Ok(())
+}
+
+#[test]
+fn patterns_match_otherwise_than_in_git(rt: HostRuntime) -> Result<(), Fail> {
     for (pattern, path, wanted) in UNLIKE_GIT {
         assert!(rt;
             matches(rt.alloc(), pattern, path, wanted)?,
@@ -171,20 +176,27 @@ fn many_stars_end_at_once(rt: HostRuntime) -> Result<(), Fail> {
     Ok(())
 }
 
-/// One of many patterns that match nothing else.
+/// Four patterns as one list, and another list beside it.
+const LISTS: &str =
+    "[platform.a]\ncommands = 'a'\n[codebase]\nexclude = ['build/', 'third_party/**', '*.def', '/src/gen_?.c']\nskip = ['z']\n";
+
+/// Each pattern of a list counts, and no other list does.
 #[test]
 fn each_pattern_of_a_list_counts(rt: HostRuntime) -> Result<(), Fail> {
-    let text =
-        "[platform.a]\ncommands = 'a'\n[codebase]\nexclude = ['x/', '*.def', '/y']\nskip = ['z']\n";
     for (path, wanted) in [
-        ("x/a.c", (false, false)),
-        ("a.def", (false, false)),
-        ("y", (false, false)),
+        ("build/x.c", (false, false)),
+        ("a/build/x.c", (false, false)),
+        ("third_party/a/b.h", (false, false)),
+        ("lib/t.def", (false, false)),
+        ("src/gen_1.c", (false, false)),
+        ("build", (true, false)),
+        ("x/third_party/a.h", (true, false)),
+        ("src/gen_12.c", (true, false)),
+        ("x/src/gen_1.c", (true, false)),
         ("z/a.def", (false, true)),
-        ("a/y", (true, false)),
         ("z", (true, true)),
     ] {
-        assert!(rt; told(rt.alloc(), text, path)? == Some(wanted), "{path}");
+        assert!(rt; told(rt.alloc(), LISTS, path)? == Some(wanted), "{path}");
     }
     Ok(())
 }
