@@ -1,3 +1,5 @@
 pub mod Memory
 pub mod Outside
 pub mod Standard
+pub mod Tables
+pub mod inner

@@ -1,5 +1,6 @@
 -- What the objects in memory stand for, and what their next call does.
 use Rattle.std.specs.Prelude.{ℕ, ◌+◌, ◌-◌, ◌<◌, ◌≤◌, ◌⊎◌, min, max, List, length, Contains, slice_get, Option, Some, None}
+use Rattle.cb_outside.specs.Tables.{Tables}
 
 -- a source in memory: bytes left, the most that each call gives, the calls that fail, calls so far, failed ones (own)
 pub record SourceState : Type 0 where
@@ -13,6 +14,13 @@ pub record SourceState : Type 0 where
 pub record SinkState : Type 0 where
   pub taken : List ℕ
   pub room : ℕ
+  pub fails : List ℕ
+  pub calls : ℕ
+  pub faults : ℕ
+
+-- a keeper in memory: what is kept, the calls that fail, calls so far, failed ones (own)
+pub record KeeperState : Type 0 where
+  pub tables : Tables
   pub fails : List ℕ
   pub calls : ℕ
   pub faults : ℕ

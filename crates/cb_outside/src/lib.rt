@@ -2,8 +2,12 @@
 #![tactic(auto)]
 
 mod failed;
+mod keeper;
+mod kept;
+mod memory_keeper;
 mod memory_sink;
 mod memory_source;
+mod no_keeper;
 mod numbers;
 mod parts;
 mod read_error;
@@ -12,10 +16,16 @@ mod sink;
 mod source;
 mod std_sink;
 mod std_source;
+mod table_maps;
+mod text_map;
 
 pub use failed::Failed;
+pub use keeper::Keeper;
+pub use kept::{KeepFault, Kept, Table};
+pub use memory_keeper::MemKeeper;
 pub use memory_sink::MemSink;
 pub use memory_source::MemSource;
+pub use no_keeper::NoKeeper;
 pub use numbers::Numbers;
 pub use read_error::ReadError;
 pub use reading::take_up_to;
