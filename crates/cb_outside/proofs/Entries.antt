@@ -13,8 +13,8 @@ use Rattle.std.specs.Map.{keys_of}
 use Rattle.cb_outside.specs.declared.kept.Kept.{Kept}
 use Rattle.cb_outside.specs.declared.kept.Table.{Table}
 use Rattle.cb_outside.specs.declared.kept.Table.TheVariants.{Analysis, Databases, Sources, Measurements}
-use Rattle.cb_outside.specs.Tables.{Texts, put, Tables, no_tables, changed, with_entries, entry_count, AreEntries, entries_in, entries_of}
-use Rattle.cb_outside.specs.inner.Maps.{Rise, AllRise}
+use Rattle.cb_outside.specs.Tables.{Texts, Rise, put, Tables, no_tables, changed, with_entries, entry_count, AreEntries, entries_in, entries_of}
+use Rattle.cb_outside.specs.inner.Maps.{AllRise}
 
 -- texts put one after another
 abbrev put_all : Texts → Texts → Texts

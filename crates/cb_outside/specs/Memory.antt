@@ -1,6 +1,6 @@
 -- What the objects in memory stand for, and what their next call does.
 use Rattle.std.specs.Prelude.{ℕ, ◌+◌, ◌-◌, ◌<◌, ◌≤◌, ◌⊎◌, min, max, List, length, Contains, slice_get, Option, Some, None}
-use Rattle.cb_outside.specs.Tables.{Tables}
+use Rattle.cb_outside.specs.Tables.{Texts, Tables}
 
 -- a source in memory: bytes left, the most that each call gives, the calls that fail, calls so far, failed ones (own)
 pub record SourceState : Type 0 where
@@ -21,6 +21,14 @@ pub record SinkState : Type 0 where
 -- a keeper in memory: what is kept, the calls that fail, calls so far, failed ones (own)
 pub record KeeperState : Type 0 where
   pub tables : Tables
+  pub fails : List ℕ
+  pub calls : ℕ
+  pub faults : ℕ
+
+-- a tree in memory: its files, the folder in which the program runs, the calls that fail, calls so far, failed ones (own)
+pub record TreeState : Type 0 where
+  pub files : Texts
+  pub here : List ℕ
   pub fails : List ℕ
   pub calls : ℕ
   pub faults : ℕ

@@ -1,7 +1,8 @@
 -- Texts by their keys, and the tables of what is kept.
 use Rattle.std.specs.Prelude.{◌≡◌, ℕ, ◌+◌, List, [], ◌∷◌, ◌++◌, length, map, Option}
 use Rattle.std.specs.BTreeMap.{insert_entry, is_at}
-use Rattle.std.specs.Map.{lookup, remove_entry}
+use Rattle.std.specs.List.Sorted.{IsStrictlySortedBy}
+use Rattle.std.specs.Map.{keys_of, lookup, remove_entry}
 use Rattle.std.specs.Ordering.{nat_cmp}
 use Rattle.std.specs.Cmp.Lexicographic.{slice_cmp}
 use Rattle.cb_outside.specs.declared.kept.Kept.{Kept}
@@ -23,6 +24,10 @@ put key bytes texts = insert_entry (slice_cmp nat_cmp) texts key bytes
 -- the texts without the one at a key (own)
 abbrev pub removed : List ℕ → Texts → Texts
 removed key texts = remove_entry (is_at (slice_cmp nat_cmp key)) texts
+
+-- the keys of texts rise, so that each stands once (own)
+abbrev pub Rise : Texts → Type 0
+Rise texts = IsStrictlySortedBy (slice_cmp nat_cmp) (keys_of texts)
 
 -- what is kept: the texts of each table (own)
 pub record Tables : Type 0 where

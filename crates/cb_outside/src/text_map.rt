@@ -1,7 +1,6 @@
 //! Texts by their keys, in memory.
 ghost use Rattle.std.specs.Prelude.{◌≡◌, ◌<◌, [], Some, length, map, IfOk, OnOk, OnErr, slice_get};
-ghost use Rattle.cb_outside.specs.Tables.{put, removed, entries_in};
-ghost use Rattle.cb_outside.specs.inner.Maps.{Rise};
+ghost use Rattle.cb_outside.specs.Tables.{put, removed, entries_in, Rise};
 
 use crate::kept::{Kept, Table};
 use cb_paths::{Bytes, NoMemory};

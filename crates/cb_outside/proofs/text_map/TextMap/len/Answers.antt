@@ -2,7 +2,7 @@ use Rattle.std.proofs.Common.{◌≡◌, length, ap, ◌∙◌, sym, subst}
 use Rattle.std.proofs.lemmas.List.{length-map}
 use Rattle.std.specs.Ordering.{nat_cmp}
 use Rattle.std.specs.Cmp.Lexicographic.{slice_cmp}
-use Rattle.cb_outside.specs.inner.Maps.{Rise}
+use Rattle.cb_outside.specs.Tables.{Rise}
 use Rattle.cb_outside.proofs.Maps.{texts_rise}
 use Rattle.cb_outside.proofs.text_map.TextMap.len.Goals as goal
 
