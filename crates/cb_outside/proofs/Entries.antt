@@ -1,5 +1,5 @@
 -- Entries put one after another make the tables that they are of.
-use Rattle.std.proofs.Common.{◌≡◌, ℕ, ◌+◌, List, [], ◌∷◌, ◌++◌, length, map, refl, ap, sym, ◌∙◌, subst, append_assoc, length-append, arith}
+use Rattle.std.proofs.Common.{◌≡◌, ℕ, ◌+◌, List, [], ◌∷◌, ◌++◌, length, refl, ap, sym, ◌∙◌, subst, append_assoc, length-append, arith}
 use Rattle.std.proofs.lemmas.List.{length-map, append-nil}
 use Rattle.std.specs.declared.result.Result.{Result}
 use Rattle.std.specs.declared.result.Result.TheVariants.{Ok, Err}
@@ -13,7 +13,7 @@ use Rattle.std.specs.Map.{keys_of}
 use Rattle.cb_outside.specs.declared.kept.Kept.{Kept}
 use Rattle.cb_outside.specs.declared.kept.Table.{Table}
 use Rattle.cb_outside.specs.declared.kept.Table.TheVariants.{Analysis, Databases, Sources, Measurements}
-use Rattle.cb_outside.specs.Tables.{Texts, Rise, put, Tables, no_tables, changed, with_entries, entry_count, AreEntries, entries_in, entries_of}
+use Rattle.cb_outside.specs.Tables.{Texts, Rise, put, Tables, no_tables, changed, with_entries, AreEntries, entries_in, entries_of}
 use Rattle.cb_outside.specs.inner.Maps.{AllRise}
 
 -- texts put one after another

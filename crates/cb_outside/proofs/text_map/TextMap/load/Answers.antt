@@ -1,4 +1,4 @@
-use Rattle.std.proofs.Common.{◌≡◌, ℕ, List, Some, ap, ◌∙◌, sym, slice_get, option_map}
+use Rattle.std.proofs.Common.{ℕ, List, Some, ap, ◌∙◌, sym, slice_get, option_map}
 use Rattle.std.proofs.lemmas.Option.{slice_get-map}
 use Rattle.std.proofs.lemmas.Iterator.Consumers.{nth_from_yields_List, YieldsList-from_rest}
 use Rattle.std.specs.declared.option.Option.{Option}
