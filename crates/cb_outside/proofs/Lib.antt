@@ -1,4 +1,5 @@
 pub mod Entries
+pub mod Folders
 pub mod Maps
 pub mod Once
 pub mod Prefixes

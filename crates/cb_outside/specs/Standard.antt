@@ -10,3 +10,8 @@ pub record InputState : Type 0 where
 pub record OutputState : Type 0 where
   pub taken : Option (List ℕ)
   pub faults : ℕ
+
+-- the files of the system: the folder in which the program runs, and how many calls have failed (own)
+pub record FilesState : Type 0 where
+  pub here : List ℕ
+  pub faults : ℕ

@@ -3,6 +3,7 @@
 
 mod below;
 mod failed;
+mod gate;
 mod keeper;
 mod kept;
 mod listing;
@@ -20,12 +21,15 @@ mod sink;
 mod source;
 mod std_sink;
 mod std_source;
+mod std_tree;
+mod system_files;
 mod table_maps;
 mod text_map;
 mod tree;
 mod tree_faults;
 
 pub use failed::Failed;
+pub use gate::{Gate, NoGate};
 pub use keeper::Keeper;
 pub use kept::{KeepFault, Kept, Table};
 pub use memory_keeper::MemKeeper;
@@ -41,5 +45,6 @@ pub use sink::{Sink, put_all};
 pub use source::Source;
 pub use std_sink::StdSink;
 pub use std_source::StdSource;
+pub use std_tree::StdTree;
 pub use tree::Tree;
 pub use tree_faults::{ListFault, ReadFault};
