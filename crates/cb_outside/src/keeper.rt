@@ -1,5 +1,6 @@
 //! Where inputs are kept.
-ghost use Rattle.std.specs.Prelude.{◌≡◌, ℕ, ◌<◌, ◌≤◌, List, Option, Some, IfOk, IfSome, IsSomeAnd, IsErrOf, OnOk, OnErr, option_map, slice_get};
+ghost use Rattle.std.specs.Prelude.{◌≡◌, ℕ, ◌<◌, ◌≤◌, List, Option, Some};
+ghost use Rattle.std.specs.Prelude.{IfOk, IfSome, IsSomeAnd, IsErrOf, OnOk, OnErr, option_map, slice_get};
 ghost use Rattle.cb_outside.specs.Outside.{Rose};
 ghost use Rattle.cb_outside.specs.Tables.{Tables, put, removed, changed, entry_count, AreEntries};
 ghost use Rattle.cb_outside.specs.declared.kept.Kept.{Kept};
@@ -25,7 +26,8 @@ pub trait Keeper {
 
     /// Keeps these bytes in a table at a key, in place of those that stood there.
     fn put(&mut self, table: Table, key: &[u8], bytes: &[u8]) -> Result<(), KeepFault>
-        ensures kept { OnOk result (tables self.new ≡ option_map (changed table (put key.now bytes.now)) (tables self.old)) }
+        ensures kept { OnOk result
+            (tables self.new ≡ option_map (changed table (put key.now bytes.now)) (tables self.old)) }
         ensures unchanged { OnErr result (tables self.new ≡ tables self.old) }
         ensures same_order { OnErr result (order self.new ≡ order self.old) }
         ensures same_list { OnErr result (listed self.new ≡ listed self.old) }
@@ -48,10 +50,12 @@ pub trait Keeper {
         ensures never_falls { faults self.old ≤ faults self.new }
         ensures wants_never_fall { wants self.old ≤ wants self.new };
 
-    /// The number of entries that can be loaded. Where the object tells what is kept, the entries are those of the tables, each once.
+    /// The number of entries that can be loaded. Where the object tells what is kept, the entries are those of the
+    /// tables, each once.
     fn count(&mut self) -> Result<u64, KeepFault>
         ensures count { IfOk result (λ n. n ≡ listed self.old) }
-        ensures entries { OnOk result (IfSome (tables self.old) (λ t. IsSomeAnd (order self.old) (λ entries. AreEntries entries t))) }
+        ensures entries { OnOk result
+            (IfSome (tables self.old) (λ t. IsSomeAnd (order self.old) (λ entries. AreEntries entries t))) }
         ensures unchanged { tables self.new ≡ tables self.old }
         ensures same_order { order self.new ≡ order self.old }
         ensures same_list { listed self.new ≡ listed self.old }

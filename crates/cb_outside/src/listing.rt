@@ -37,7 +37,8 @@ fn add_files(
     folder: &[u8],
     names: &mut Names,
 ) -> Result<(), NoMemory>
-    ensures added { OnOk result (names.new ≡ names.old ++ map (named File) (filter_map (file_in folder.now) (keys_of files.now.entries))) }
+    ensures added { OnOk result
+        (names.new ≡ names.old ++ map (named File) (filter_map (file_in folder.now) (keys_of files.now.entries))) }
     ensures paths { OnOk result (AreFiles files.now.entries) }
 {
     'files: for path in files.keys() {
@@ -68,7 +69,8 @@ fn folders_in(
     files: &BTreeMap<Path, Bytes>,
     folder: &[u8],
 ) -> Result<Texts, NoMemory>
-    ensures { IfOk result (λ folders. folders ≡ each_once (filter_map (folder_in folder.now) (keys_of files.now.entries))) }
+    ensures { IfOk result
+        (λ folders. folders ≡ each_once (filter_map (folder_in folder.now) (keys_of files.now.entries))) }
 {
     let mut folders = Texts::new(alloc);
     'files: for path in files.keys() {

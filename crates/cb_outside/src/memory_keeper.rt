@@ -1,5 +1,6 @@
 //! A keeper in memory.
-ghost use Rattle.std.specs.Prelude.{◌≡◌, ◌<◌, ◌≤◌, ◌↔◌, Some, IfOk, IfSome, IsSomeAnd, IsErrOf, OnOk, OnErr, option_map, slice_get, refl};
+ghost use Rattle.std.specs.Prelude.{◌≡◌, ◌<◌, ◌≤◌, ◌↔◌, Some, refl};
+ghost use Rattle.std.specs.Prelude.{IfOk, IfSome, IsSomeAnd, IsErrOf, OnOk, OnErr, option_map, slice_get};
 ghost use Rattle.cb_outside.specs.Outside.{Rose, one_more};
 ghost use Rattle.cb_outside.specs.Memory.{IsDue};
 ghost use Rattle.cb_outside.specs.Tables.{put, removed, changed, no_tables, entry_count, entries_of, AreEntries};
@@ -98,7 +99,8 @@ impl Keeper for MemKeeper {
           calls = one_more self.old.calls;
           faults = one_more self.old.faults;
         } }
-        ensures no_memory { IsErrOf result KeepFault.NoMemory → self.new ≡ record self.old { calls = one_more self.old.calls } }
+        ensures no_memory { IsErrOf result KeepFault.NoMemory
+            → self.new ≡ record self.old { calls = one_more self.old.calls } }
     {
         self.begin()?;
         self.tables.put(table, key, bytes)?;
@@ -130,7 +132,8 @@ impl Keeper for MemKeeper {
         ensures fails { IsErrOf result KeepFault.Failed ↔ IsDue self.old.fails self.old.calls }
         ensures count { IfOk result (λ n. n ≡ entry_count self.old.tables) }
         ensures entries { OnOk result (AreEntries (entries_of self.old.tables) self.old.tables) }
-        ensures kept { (IsErrOf result KeepFault.Failed → ⊥) → self.new ≡ record self.old { calls = one_more self.old.calls } }
+        ensures kept { (IsErrOf result KeepFault.Failed → ⊥)
+            → self.new ≡ record self.old { calls = one_more self.old.calls } }
         ensures failed { IsErrOf result KeepFault.Failed → self.new ≡ record self.old {
           calls = one_more self.old.calls;
           faults = one_more self.old.faults;
@@ -149,7 +152,8 @@ impl Keeper for MemKeeper {
         ensures never_falls { self.old.faults ≤ self.new.faults }
         ensures fails { IsErrOf result KeepFault.Failed ↔ IsDue self.old.fails self.old.calls }
         ensures entry { IfOk result (λ kept. slice_get (entries_of self.old.tables) i ≡ Some kept) }
-        ensures kept { (IsErrOf result KeepFault.Failed → ⊥) → self.new ≡ record self.old { calls = one_more self.old.calls } }
+        ensures kept { (IsErrOf result KeepFault.Failed → ⊥)
+            → self.new ≡ record self.old { calls = one_more self.old.calls } }
         ensures failed { IsErrOf result KeepFault.Failed → self.new ≡ record self.old {
           calls = one_more self.old.calls;
           faults = one_more self.old.faults;

@@ -1,5 +1,6 @@
 //! A tree in memory.
-ghost use Rattle.std.specs.Prelude.{◌≡◌, ◌<◌, ◌≤◌, ◌↔◌, [], if◌then◌else◌, length, Some, None, IfOk, IsSomeAnd, IsErrOf, IsTrue, OnOk, OnErr};
+ghost use Rattle.std.specs.Prelude.{◌≡◌, ◌<◌, ◌≤◌, ◌↔◌, [], if◌then◌else◌, length, Some, None};
+ghost use Rattle.std.specs.Prelude.{IfOk, IsSomeAnd, IsErrOf, IsTrue, OnOk, OnErr};
 ghost use Rattle.std.specs.List.Sorted.{IsPermutation};
 ghost use Rattle.cb_outside.specs.Outside.{Rose, one_more};
 ghost use Rattle.cb_outside.specs.Memory.{IsDue};
@@ -42,8 +43,8 @@ impl Model for MemTree {
 }
 
 impl MemTree {
-    /// A tree without files, in which the program runs in the folder `here`. Call number k of `list` and `read`, counted from 1, fails
-    /// where k stands in `fails`.
+    /// A tree without files, in which the program runs in the folder `here`. Call number k of `list` and `read`,
+    /// counted from 1, fails where k stands in `fails`.
     pub fn new(alloc: Global, here: Dir, fails: Numbers) -> MemTree
         ensures { result ≡ record {
           files = [];
@@ -113,7 +114,8 @@ impl Tree for MemTree {
         ensures never_falls { self.old.faults ≤ self.new.faults }
 
         ensures fails { IsErrOf result ListFault.Failed ↔ IsDue self.old.fails self.old.calls }
-        ensures done { (IsErrOf result ListFault.Failed → ⊥) → self.new ≡ record self.old { calls = one_more self.old.calls } }
+        ensures done { (IsErrOf result ListFault.Failed → ⊥)
+            → self.new ≡ record self.old { calls = one_more self.old.calls } }
         ensures failed { IsErrOf result ListFault.Failed → self.new ≡ record self.old {
           calls = one_more self.old.calls;
           faults = one_more self.old.faults;
@@ -133,12 +135,14 @@ impl Tree for MemTree {
         ensures content { IfOk result (λ bytes. text_at path.now self.old.files ≡ Some bytes) }
         ensures within { IfOk result (λ bytes. length bytes ≤ limit) }
         ensures absent { IsErrOf result ReadFault.Absent → text_at path.now self.old.files ≡ None }
-        ensures too_long { IsErrOf result ReadFault.TooLong → IsSomeAnd (text_at path.now self.old.files) (λ bytes. limit < length bytes) }
+        ensures too_long { IsErrOf result ReadFault.TooLong
+            → IsSomeAnd (text_at path.now self.old.files) (λ bytes. limit < length bytes) }
         ensures rose { IsErrOf result ReadFault.Failed → Rose self.old.faults self.new.faults }
         ensures never_falls { self.old.faults ≤ self.new.faults }
 
         ensures fails { IsErrOf result ReadFault.Failed ↔ IsDue self.old.fails self.old.calls }
-        ensures done { (IsErrOf result ReadFault.Failed → ⊥) → self.new ≡ record self.old { calls = one_more self.old.calls } }
+        ensures done { (IsErrOf result ReadFault.Failed → ⊥)
+            → self.new ≡ record self.old { calls = one_more self.old.calls } }
         ensures failed { IsErrOf result ReadFault.Failed → self.new ≡ record self.old {
           calls = one_more self.old.calls;
           faults = one_more self.old.faults;

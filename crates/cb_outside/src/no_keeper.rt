@@ -1,5 +1,6 @@
 //! A keeper that keeps nothing.
-ghost use Rattle.std.specs.Prelude.{◌≡◌, ℕ, ◌<◌, ◌≤◌, Some, None, IfOk, IfSome, IsSomeAnd, IsOk, IsErrOf, OnOk, OnErr, option_map, slice_get};
+ghost use Rattle.std.specs.Prelude.{◌≡◌, ℕ, ◌<◌, ◌≤◌, Some, None};
+ghost use Rattle.std.specs.Prelude.{IfOk, IfSome, IsSomeAnd, IsOk, IsErrOf, OnOk, OnErr, option_map, slice_get};
 ghost use Rattle.cb_outside.specs.Outside.{Rose};
 
 use crate::keeper::Keeper;

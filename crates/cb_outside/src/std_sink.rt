@@ -8,8 +8,8 @@ use crate::sink::Sink;
 use std::io::Write;
 use std::marker::Model;
 
-/// A sink over a writer. It keeps no buffer of its own. It tells of its bytes what the writer tells: a vector tells them, and the
-/// system's standard output tells nothing.
+/// A sink over a writer. It keeps no buffer of its own. It tells of its bytes what the writer tells: a vector tells
+/// them, and the system's standard output tells nothing.
 #[derive(Drop)]
 pub struct StdSink<W: Write> {
     writer: W,

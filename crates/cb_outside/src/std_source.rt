@@ -8,8 +8,8 @@ use crate::source::Source;
 use std::io::Read;
 use std::marker::Model;
 
-/// A source over a reader. It tells of its bytes what the reader tells: a slice tells them, and the system's standard input tells
-/// nothing.
+/// A source over a reader. It tells of its bytes what the reader tells: a slice tells them, and the system's standard
+/// input tells nothing.
 #[derive(Drop)]
 pub struct StdSource<R: Read> {
     reader: R,

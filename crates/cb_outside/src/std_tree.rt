@@ -1,5 +1,6 @@
 //! The files of the system, as a tree.
-ghost use Rattle.std.specs.Prelude.{◌≡◌, ◌≤◌, if◌then◌else◌, length, codes, unwrap_or, Some, None, IfOk, IfSome, IsErrOf, OnOk};
+ghost use Rattle.std.specs.Prelude.{◌≡◌, ◌≤◌, if◌then◌else◌, length, codes, Some, None};
+ghost use Rattle.std.specs.Prelude.{unwrap_or, IfOk, IfSome, IsErrOf, OnOk};
 ghost use Rattle.std.specs.List.Sorted.{IsPermutation};
 ghost use Rattle.cb_paths.specs.Paths.{is_absolute, folder_at};
 ghost use Rattle.cb_outside.specs.Outside.{Rose, one_more};
@@ -16,8 +17,9 @@ use std::env::{self, Env, VarError};
 use std::fs::Files;
 use std::marker::Model;
 
-/// The files of the system, of which the top is the folder in which the program runs. It tells nothing of them. A link is neither a
-/// file nor a folder, a folder that holds a name that is not UTF-8 is not listed, and a path that is not UTF-8 is absent.
+/// The files of the system, of which the top is the folder in which the program runs. It tells nothing of them. A link
+/// is neither a file nor a folder, a folder that holds a name that is not UTF-8 is not listed, and a path that is not
+/// UTF-8 is absent.
 #[derive(Drop)]
 pub struct StdTree<'a, R> {
     rt: &'a R,
@@ -34,8 +36,8 @@ impl<'a, R> Model for StdTree<'a, R> {
 }
 
 impl<'a, R> StdTree<'a, R> {
-    /// The files that this runtime reaches. The folder in which the program runs is that of the environment variable `PWD`, where it is
-    /// an absolute path that names a folder, and else `/`.
+    /// The files that this runtime reaches. The folder in which the program runs is that of the environment variable
+    /// `PWD`, where it is an absolute path that names a folder, and else `/`.
     pub fn new(rt: &'a R) -> Result<StdTree<'a, R>, NoMemory>
     where
         R: Env + AllocGlobal,
@@ -51,7 +53,8 @@ impl<'a, R> StdTree<'a, R> {
 
     /// Counts a call that failed.
     fn count(&mut self, failed: bool)
-        ensures counted { self.new ≡ record self.old { faults = if failed then one_more self.old.faults else self.old.faults } }
+        ensures counted { self.new
+            ≡ record self.old { faults = if failed then one_more self.old.faults else self.old.faults } }
         ensures never_falls { self.old.faults ≤ self.new.faults }
     {
         if failed {
@@ -71,7 +74,8 @@ fn working_folder<R: Env + AllocGlobal>(rt: &R) -> Result<Dir, NoMemory> {
 
 /// The folder that a text names, where it is an absolute path that names one, and else `/`.
 fn absolute_or_top(alloc: Global, text: &[u8]) -> Result<Dir, NoMemory>
-    ensures { IfOk result (λ folder. folder ≡ (if is_absolute text.now then unwrap_or (folder_at text.now (codes "/")) (codes "/") else codes "/")) }
+    ensures { IfOk result (λ folder. folder
+        ≡ (if is_absolute text.now then unwrap_or (folder_at text.now (codes "/")) (codes "/") else codes "/")) }
 {
     let top = Dir::top(alloc)?;
     if !text.starts_with(b"/".as_slice()) {

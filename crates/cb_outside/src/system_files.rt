@@ -102,7 +102,8 @@ pub(crate) fn read_file<R: Files>(
     Ok(bytes)
 }
 
-/// So many bytes at the front of a plain file, or all of them where it has fewer; none where what is named is no plain file.
+/// So many bytes at the front of a plain file, or all of them where it has fewer; none where what is named is no plain
+/// file.
 fn front_of<R: Files>(rt: &R, alloc: Global, path: &str, most: u64) -> io::Result<Option<Vec<u8>>> {
     if !fs::symlink_metadata(rt, path)?.is_file() {
         return Ok(None);

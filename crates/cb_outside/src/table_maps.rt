@@ -1,5 +1,6 @@
 //! The tables of what is kept, in memory.
-ghost use Rattle.std.specs.Prelude.{◌≡◌, ◌+◌, ◌<◌, ◌^◌, ◌≤◌, length, Some, IfOk, IfSome, IfNone, OnOk, OnErr, slice_get};
+ghost use Rattle.std.specs.Prelude.{◌≡◌, ◌+◌, ◌<◌, ◌^◌, ◌≤◌, length, Some};
+ghost use Rattle.std.specs.Prelude.{IfOk, IfSome, IfNone, OnOk, OnErr, slice_get};
 ghost use Rattle.cb_outside.specs.Tables.{put, removed, changed, no_tables, entry_count, entries_of};
 ghost use Rattle.cb_outside.specs.inner.Maps.{AllRise};
 

@@ -1,5 +1,6 @@
 //! A tree of files.
-ghost use Rattle.std.specs.Prelude.{◌≡◌, ℕ, ◌<◌, ◌≤◌, List, length, Option, Some, None, IfOk, IfSome, IsSomeAnd, IsErrOf, OnOk};
+ghost use Rattle.std.specs.Prelude.{◌≡◌, ℕ, ◌<◌, ◌≤◌, List, length, Option, Some, None};
+ghost use Rattle.std.specs.Prelude.{IfOk, IfSome, IsSomeAnd, IsErrOf, OnOk};
 ghost use Rattle.std.specs.List.Sorted.{IsPermutation};
 ghost use Rattle.cb_outside.specs.Outside.{Rose};
 ghost use Rattle.cb_outside.specs.Tables.{Texts, text_at};
@@ -24,13 +25,15 @@ pub trait Tree {
     fn here(&self) -> Result<Dir, NoMemory>
         ensures { IfOk result (λ folder. folder ≡ place self.now) };
 
-    /// The names in a folder, in any order. The folder is the bytes of its path, and the top is the empty text. `TooMany` where there
-    /// are more than `limit`.
+    /// The names in a folder, in any order. The folder is the bytes of its path, and the top is the empty text.
+    /// `TooMany` where there are more than `limit`.
     fn list(&mut self, folder: &[u8], limit: u64) -> Result<Names, ListFault>
-        ensures names { IfOk result (λ names. IfSome (files self.old) (λ told. IsPermutation (names_in folder.now told) names)) }
+        ensures names { IfOk result
+            (λ names. IfSome (files self.old) (λ told. IsPermutation (names_in folder.now told) names)) }
         ensures paths { OnOk result (IfSome (files self.old) AreFiles) }
         ensures within { IfOk result (λ names. length names ≤ limit) }
-        ensures too_many { IsErrOf result ListFault.TooMany → IfSome (files self.old) (λ told. limit < length (names_in folder.now told)) }
+        ensures too_many { IsErrOf result ListFault.TooMany
+            → IfSome (files self.old) (λ told. limit < length (names_in folder.now told)) }
         ensures failed { IsErrOf result ListFault.Failed → Rose (faults self.old) (faults self.new) }
         ensures steady { (IsErrOf result ListFault.Failed → ⊥) → faults self.new ≡ faults self.old }
         ensures never_falls { faults self.old ≤ faults self.new }
@@ -41,7 +44,8 @@ pub trait Tree {
     fn read(&mut self, path: &Path, limit: u64) -> Result<Bytes, ReadFault>
         ensures content { IfOk result (λ bytes. IfSome (files self.old) (λ told. text_at path.now told ≡ Some bytes)) }
         ensures within { IfOk result (λ bytes. length bytes ≤ limit) }
-        ensures absent { IsErrOf result ReadFault.Absent → IfSome (files self.old) (λ told. text_at path.now told ≡ None) }
+        ensures absent { IsErrOf result ReadFault.Absent
+            → IfSome (files self.old) (λ told. text_at path.now told ≡ None) }
         ensures too_long { IsErrOf result ReadFault.TooLong
             → IfSome (files self.old) (λ told. IsSomeAnd (text_at path.now told) (λ bytes. limit < length bytes)) }
         ensures failed { IsErrOf result ReadFault.Failed → Rose (faults self.old) (faults self.new) }
