@@ -9,3 +9,5 @@ mod outside;
 mod paths;
 #[cfg(test)]
 mod places;
+#[cfg(test)]
+mod trees;
