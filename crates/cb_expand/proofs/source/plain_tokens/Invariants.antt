@@ -1,6 +1,0 @@
-use Rattle.std.proofs.Common.{◌≡◌, map}
-use Rattle.cb_expand.specs.inner.Sources.{as_token}
-use Rattle.cb_expand.proofs.source.plain_tokens.Given as goal
-
-abbrev pub invariant-tokens : goal.invariant-tokens
-invariant-tokens l = l.plain ≡ map as_token l.yielded
