@@ -10,3 +10,5 @@ pub mod Readings
 pub mod Headings
 pub mod Begun
 pub mod Runs
+pub mod Staying
+pub mod Fronts

@@ -80,14 +80,6 @@ pub read_in : (n : ℕ) (ts : List Token) → AreIn n (map as_read ts)
 read_in n [] = tt
 read_in n (t ∷ ts) = (omega arith, read_in n ts)
 
--- a token more that stays
-pub untouched_more : (ms : Named) (mode : Mode) (ts : List Token) (i at : ℕ) (t : Token) → at ≡ suc i → i < length ts → t ≡ get_or ts i t
-    → ((rest : List Shaded) → head ms mode (bare t) rest ≡ Stands (bare t) rest)
-    → Expands ms mode (map bare (drop at ts)) (map bare (drop at ts)) 0 → Expands ms mode (map bare (drop i ts)) (map bare (drop i ts)) 0
-untouched_more ms mode ts i at t n a e h x =
-    let d : drop i ts ≡ t ∷ drop at ts = drop-cons ts i t a ∙ (ap (λ x. x ∷ drop (suc i) ts) (sym e) ∙ ap (λ n. t ∷ drop n ts) (sym n)) in
-    subst (λ xs. Expands ms mode (map bare xs) (map bare xs) 0) (sym d) (stands (h (map bare (drop at ts))) x)
-
 -- a source of which nothing is read yet
 pub source_row : (sets : List (List ℕ)) (ts : List Token) (us : List WorkToken) → us ≡ map as_read (reverse ts)
     → between 0 (length (seen_all sets us)) (seen_all sets us) ≡ map bare ts

@@ -1,4 +1,5 @@
 pub mod Arguments
 pub mod Heads
 pub mod Expansion
+pub mod Untouched
 pub mod inner

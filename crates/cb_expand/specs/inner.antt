@@ -6,3 +6,4 @@ pub mod Gathers
 pub mod Readings
 pub mod Lefts
 pub mod Sources
+pub mod Fronts

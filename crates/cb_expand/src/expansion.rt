@@ -5,9 +5,10 @@ ghost use Rattle.cb_expand.specs.inner.Works.{IsWork, Stepped, state_of, Exceeds
 ghost use Rattle.cb_expand.specs.inner.Sources.{IsEnd, IsRunFrom};
 
 use crate::fault::ExpandFault;
+use crate::front::read_front;
 use crate::mode::Mode;
 use crate::reading::read;
-use crate::source::{are_untouched, copied, plain_tokens, work_of};
+use crate::source::{done_of, push_plain, work_of};
 use crate::steps::{end_list, resume};
 use crate::work::{Call, Work};
 use cb_macro::Macros;
@@ -80,7 +81,7 @@ fn run(alloc: Global, macros: &Macros, mode: Mode, work: &mut Work) -> Result<()
 /// that it puts in, and each argument that is expanded costs that once. It is `TooLong` exactly where the tokens cost more
 /// than `COST_LIMIT`, and then ends as soon as that is certain. Where memory is wanting it may be `NoMemory`.
 ///
-/// Tokens among which no macro is named are looked up once each, and take no memory but that of the answer.
+/// Tokens before the first name of a macro are looked up once each, and only copied.
 pub fn expand(
     alloc: Global,
     macros: &Macros,
@@ -90,12 +91,13 @@ pub fn expand(
     ensures tokens { IfOk result (λ out. IsReplacement macros.now mode tokens.now out) }
     ensures long { result ≡ Err ExpandFault.TooLong → IsTooDear macros.now mode tokens.now }
 {
-    if are_untouched(macros, tokens, mode) {
-        let copied = copied(alloc, tokens)?;
-        return Ok(copied);
+    let mut out = Tokens::new(alloc);
+    let front = read_front(alloc, macros, mode, tokens, &mut out)?;
+    if front == tokens.len() {
+        return Ok(out);
     }
-    let mut work = work_of(alloc, tokens)?;
+    let mut work = work_of(alloc, &tokens[front..])?;
     run(alloc, macros, mode, &mut work)?;
-    let plain = plain_tokens(alloc, work.done)?;
-    Ok(plain)
+    push_plain(&mut out, done_of(work))?;
+    Ok(out)
 }

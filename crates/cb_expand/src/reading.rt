@@ -1,5 +1,5 @@
 //! What becomes of the token that is read next: it stands, it is answered, or it is replaced.
-ghost use Rattle.std.specs.Prelude.{◌≡◌, ◌<◌, ◌≤◌, None, length, IfOk, OnOk, codes, if◌then◌else◌};
+ghost use Rattle.std.specs.Prelude.{◌≡◌, ◌<◌, ◌≤◌, None, length, IfOk, OnOk};
 ghost use Rattle.cb_paste.specs.Shades.{seen};
 ghost use Rattle.cb_expand.specs.declared.mode.Mode.{Mode as Tongue};
 ghost use Rattle.cb_expand.specs.Heads.{Named, Head, answer_token};
@@ -12,12 +12,12 @@ use crate::fault::ExpandFault;
 use crate::heading::{Heading, heading_of};
 use crate::limits::COST_LIMIT;
 use crate::mode::Mode;
-use crate::numbers::small;
+use crate::numbers::{digit_of, small};
 use crate::steps::put_in;
 use crate::work::{Call, Work};
 use cb_macro::Macros;
 use cb_paste::WorkToken;
-use cb_paths::{Bytes, NoMemory};
+use cb_paths::NoMemory;
 use cb_tokens::TokenKind;
 use std::alloc::Global;
 
@@ -81,16 +81,6 @@ fn answer(
         hides: token.hides,
     })?;
     Ok(())
-}
-
-/// `1` or `0`.
-fn digit_of(alloc: Global, is_one: bool) -> Result<Bytes, NoMemory>
-    ensures { IfOk result (λ digit. digit ≡ (if is_one then codes "1" else codes "0")) }
-{
-    if is_one {
-        return Bytes::from_slice(alloc, b"1".as_slice());
-    }
-    Bytes::from_slice(alloc, b"0".as_slice())
 }
 
 /// Deals with a token that was taken from the row.

@@ -19,6 +19,8 @@ const CONDITIONS: &[(&str, &str, &str)] = &[
     ("X=1", "defined (1)", "defined (1)"),
     ("X=1", "defined defined", "0"),
     ("X=1", "(defined X)", "(1)"),
+    ("X=1", "1 + defined(Y) + X + defined X", "1 + 0 + 1 + 1"),
+    ("f(a)=a", "defined f + f", "1 + f"),
 ];
 
 /// The same where `defined` is a name like any other.

@@ -11,3 +11,5 @@ mod costs;
 mod standard;
 #[cfg(test)]
 mod telling;
+#[cfg(test)]
+mod untouched;

@@ -1,5 +1,5 @@
 //! What a source expands to, as a text.
-use cb_expand::{ExpandFault, Mode, expand};
+use cb_expand::{ExpandFault, Mode, expand, is_untouched};
 use cb_macro::{DefineFault, Macros, define_word};
 use cb_paths::NoMemory;
 use cb_tokens::{Lexed, Token, Tokens, tokens};
@@ -85,4 +85,16 @@ pub(crate) fn becomes(
         }
         None => Ok(false),
     }
+}
+
+/// Whether the first line of a source stays as it is.
+pub(crate) fn is_alone(
+    alloc: Global,
+    words: &str,
+    source: &str,
+    mode: Mode,
+) -> Result<bool, NoMemory> {
+    let macros = macros_of(alloc, words)?;
+    let lexed = lines_of(alloc, source)?;
+    Ok(is_untouched(&macros, first_line(&lexed), mode))
 }
