@@ -8,7 +8,7 @@ ghost use Rattle.cb_pass.specs.inner.Said.{said};
 
 use crate::header::header_of;
 use cb_cond::{BadCondition, value};
-use cb_expand::{ExpandFault, Mode, expand};
+use cb_expand::{ExpandFault, Mode, expand, is_untouched};
 use cb_include::Header;
 use cb_macro::Macros;
 use cb_paths::{Language, NoMemory};
@@ -40,7 +40,7 @@ fn holds_or_not(value: Result<bool, BadCondition>) -> Reply
     }
 }
 
-/// Whether tokens hold as a condition.
+/// Whether tokens hold as a condition. They are read in place where none of them is to be replaced.
 pub(crate) fn truth(
     alloc: Global,
     macros: &Macros,
@@ -49,6 +49,9 @@ pub(crate) fn truth(
 ) -> Result<Reply, NoMemory>
     ensures { IfOk result (λ reply. IsAnswered language macros.now (Truth tokens.now) (said reply)) }
 {
+    if is_untouched(macros, tokens, Mode::Condition) {
+        return Ok(holds_or_not(value(tokens, language)));
+    }
     match expand(alloc, macros, tokens, Mode::Condition) {
         Ok(out) => Ok(holds_or_not(value(out.as_slice(), language))),
         Err(ExpandFault::TooLong) => Ok(Reply::Long),
@@ -92,11 +95,15 @@ pub(crate) fn header_named(
     }
 }
 
-/// Which header tokens name as they are replaced.
+/// Which header tokens name as they are replaced. They are read in place where none of them is.
 fn header_replaced(alloc: Global, macros: &Macros, tokens: &[Token]) -> Result<Reply, NoMemory>
     ensures { IfOk result (λ reply. IsReplaced macros.now mode.Plain tokens.now
         (λ out answer. answer ≡ named_or_not (header_of out)) (said reply)) }
 {
+    if is_untouched(macros, tokens, Mode::Plain) {
+        let header = header_of(alloc, tokens)?;
+        return Ok(named_or_not(header));
+    }
     match expand(alloc, macros, tokens, Mode::Plain) {
         Ok(out) => {
             let header = header_of(alloc, out.as_slice())?;
