@@ -39,6 +39,7 @@ fn push_glued(slots: &mut Slots, glued: Glued, room: usize) -> Result<(), PasteF
 }
 
 /// Joins one more to the last of what stands.
+#[inline(never)]
 fn put_glued(
     alloc: Global,
     arena: &mut Hides,
@@ -70,6 +71,7 @@ fn put_glued(
 }
 
 /// Puts one more behind what stands, or joins it to the last.
+#[inline]
 fn put(
     alloc: Global,
     arena: &mut Hides,
@@ -252,7 +254,7 @@ pub(crate) fn put_all(
     ensures fits { IfOk result (λ slots. token_count slots ≤ room) }
     ensures kept { Extends arena.old arena.new }
 {
-    let mut slots = Slots::new(alloc);
+    let mut slots = Slots::with_capacity(alloc, parts.len())?;
     'parts: for at in 0..parts.len() {
         let part = &parts[at];
         let beside = is_beside(parts, at);

@@ -1,12 +1,12 @@
 //! What a call puts in, while it may still be joined.
-ghost use Rattle.std.specs.Prelude.{◌≡◌, ◌<◌, ◌≤◌, [], ◌∷◌, ◌++◌, ℕ, List, OnOk, MatchOption};
+ghost use Rattle.std.specs.Prelude.{◌≡◌, ◌<◌, ◌≤◌, [], ◌∷◌, ◌++◌, ℕ, List, IfOk, OnOk, MatchOption};
 ghost use Rattle.cb_paste.specs.inner.Slots.{token_count, spaced_slot, seen_slot, IsSlotIn};
 ghost use Rattle.cb_paste.specs.Joins.{Real};
 ghost use Rattle.cb_paste.specs.Puts.{own_token};
 
 use crate::fault::PasteFault;
 use crate::work_token::WorkToken;
-use cb_paths::Bytes;
+use cb_paths::{Bytes, NoMemory};
 use cb_tokens::TokenKind;
 use std::alloc::Global;
 use std::marker::Model;
@@ -71,14 +71,12 @@ impl Slot {
 }
 
 impl Slots {
-    /// Nothing stands.
-    pub fn new(alloc: Global) -> Slots
-        ensures { result ≡ [] }
+    /// Nothing stands, and so many can stand before more memory is taken.
+    pub fn with_capacity(alloc: Global, count: usize) -> Result<Slots, NoMemory>
+        ensures { IfOk result (λ slots. slots ≡ []) }
     {
-        Slots {
-            items: Vec::new(alloc),
-            tokens: 0,
-        }
+        let items = Vec::with_capacity(alloc, count)?;
+        Ok(Slots { items, tokens: 0 })
     }
 
     /// How many tokens stand.
@@ -89,6 +87,7 @@ impl Slots {
     }
 
     /// Puts one more behind the others. It is `TooLong` where there is no room for so many tokens.
+    #[inline]
     pub fn push(&mut self, slot: Slot, room: usize) -> Result<(), PasteFault>
         ensures put { OnOk result (self.new ≡ self.old ++ slot ∷ []) }
         ensures fits { OnOk result (token_count self.new ≤ room) }

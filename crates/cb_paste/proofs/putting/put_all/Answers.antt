@@ -14,7 +14,7 @@ put_part-requires-clause-given c = arguments_more _ _ (extends_length c.parts.in
 
 pub returns-in_err-put_part-clause-long : goal.returns-in_err-put_part-clause-long
 returns-in_err-put_part-clause-long c =
-    let p = err_from_is_err_and c.from_residual.result c.from_residual.ensures.1 in
+    let p = err_from_is_err_and c.from_residual-in_err-put_part.result c.from_residual-in_err-put_part.ensures.1 in
     let step = put_step (map (seen_argument c.args.arena.now) c.args.arguments.now) (map (seen_slot c.parts.arena) c.parts.slots) (put_one (map (seen_slot c.parts.arena) c.parts.slots) c.index-parts-at.result.glued (shape_puts (map (seen_argument c.parts.arena) c.args.arguments.now) c.is_beside-beside.result c.index-parts-at.result.spaced c.index-parts-at.result.shape)) c.args.parts.now c.parts.at c.index-parts-at.result c.parts-test.true c.index-parts-at.is
     (ap (λ gs. put_one (map (seen_slot c.parts.arena) c.parts.slots) c.index-parts-at.result.glued (shape_puts gs c.is_beside-beside.result c.index-parts-at.result.spaced c.index-parts-at.result.shape)) (arguments_kept c.parts.invariant.kept c.args.arguments.now c.requires)
     ∙ ap (λ b. put_one (map (seen_slot c.parts.arena) c.parts.slots) c.index-parts-at.result.glued (shape_puts (map (seen_argument c.args.arena.now) c.args.arguments.now) b c.index-parts-at.result.spaced c.index-parts-at.result.shape)) c.is_beside-beside.ensures)
