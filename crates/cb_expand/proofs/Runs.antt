@@ -40,6 +40,13 @@ module _ (ms : Named) (mode : Mode) where
       let r = g.steps.forth final n e in
       omega (arith, g.sum, r.2, x final r.0 r.1)
 
+  pub stepped_more : (a b c : Work) → Stepped ms mode a None b None → Stepped ms mode b None c None → Stepped ms mode a None c None
+  stepped_more a b c g h = record {
+    goes = goes_more (state_of ms a None) (state_of ms b None) (state_of ms c None) a.used b.used c.used g.goes h.goes;
+    kept = h.kept;
+    smaller = omega (arith, g.smaller, h.smaller);
+  }
+
 -- a token is taken from the row
 module _ (ms : Named) (w : Work) (t : WorkToken) (old : List WorkToken) (e : old ≡ w.row.tokens.items ++ t ∷ []) (f : w.floor ≤ length w.row.tokens.items) where
   front : seen_all w.arena old ≡ row_of w ++ seen w.arena t ∷ []

@@ -9,6 +9,7 @@ use crate::front::read_front;
 use crate::mode::Mode;
 use crate::reading::read;
 use crate::source::{done_of, push_plain, work_of};
+use crate::standing::{is_plain_next, stand_plain};
 use crate::steps::{end_list, resume};
 use crate::work::{Call, Work};
 use cb_macro::Macros;
@@ -22,7 +23,7 @@ fn is_done(work: &Work, call: &Option<Call>) -> bool
     call.is_none() && work.frames.is_empty() && work.row.tokens.is_empty()
 }
 
-/// The next step within lists: reads a token of the innermost list, or ends it.
+/// The next step within lists: lets tokens of the innermost list stand, reads an identifier, or ends the list.
 fn step_in_list(
     alloc: Global,
     macros: &Macros,
@@ -35,6 +36,10 @@ fn step_in_list(
     ensures long { result ≡ Err ExpandFault.TooLong
         → Exceeds macros.now mode (state_of macros.now work.old None) work.old.used }
 {
+    if is_plain_next(work) {
+        stand_plain(work)?;
+        return Ok(None);
+    }
     if work.row.tokens.len() > work.floor {
         return read(alloc, macros, mode, work);
     }

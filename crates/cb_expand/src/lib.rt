@@ -16,6 +16,7 @@ mod reading;
 mod row;
 mod sign;
 mod source;
+mod standing;
 mod steps;
 mod untouched;
 mod work;

@@ -48,8 +48,9 @@ fn replace_name(
 }
 
 /// Lets a token stand that was read.
-fn stand(work: &mut Work, token: WorkToken) -> Result<(), NoMemory>
-    ensures { (ms : Named) (mode : Tongue) → IsWork (length ms) work.old None → token.hides ≤ length work.old.arena
+pub(crate) fn stand(work: &mut Work, token: WorkToken) -> Result<(), NoMemory>
+    ensures row { work.new.row ≡ work.old.row }
+    ensures taken { (ms : Named) (mode : Tongue) → IsWork (length ms) work.old None → token.hides ≤ length work.old.arena
         → head_of ms mode work.old token ≡ Head.Stands (seen work.old.arena token) (rest_of work.old)
         → OnOk result (Taken ms mode work.old token work.new None) }
 {

@@ -26,7 +26,7 @@ fn read_of(alloc: Global, token: &Token) -> Result<WorkToken, NoMemory>
 fn stacked(alloc: Global, tokens: &[Token]) -> Result<Vec<WorkToken>, NoMemory>
     ensures { IfOk result (λ stack. stack.items ≡ map as_read (reverse tokens.now)) }
 {
-    let mut stack = Vec::new(alloc);
+    let mut stack = Vec::with_capacity(alloc, tokens.len())?;
     let mut at = tokens.len();
     'tokens: while at > 0 {
         at -= 1;
@@ -40,11 +40,9 @@ fn stacked(alloc: Global, tokens: &[Token]) -> Result<Vec<WorkToken>, NoMemory>
 pub(crate) fn work_of(alloc: Global, tokens: &[Token]) -> Result<Work, NoMemory>
     ensures { IfOk result (IsStart tokens.now) }
 {
+    let ends = Vec::with_capacity(alloc, tokens.len())?;
     let tokens = stacked(alloc, tokens)?;
-    let mut row = Row {
-        tokens,
-        ends: Vec::new(alloc),
-    };
+    let mut row = Row { tokens, ends };
     row.keep_ends()?;
     Ok(Work {
         arena: Hides::new(alloc),

@@ -1,5 +1,6 @@
 -- Reading the next token of the innermost list.
-use Rattle.std.specs.Prelude.{◌≡◌, ℕ, ◌+◌, ◌-◌, ◌==◌, ◌&&◌, ◌||◌, ◌<◌, ◌≤◌, Bool, List, [], ◌∷◌, ◌++◌, length, Option, slice_get, slice_index_or, IsSomeAnd}
+use Rattle.std.specs.Prelude.{◌≡◌, ℕ, ◌+◌, ◌-◌, ◌==◌, ◌&&◌, ◌||◌, ◌<◌, ◌≤◌, Bool, false, List, [], ◌∷◌, ◌++◌, length, Option, slice_get, slice_index_or, IsSomeAnd}
+use Rattle.cb_tokens.specs.Kinds.{is_identifier_kind}
 use Rattle.cb_paste.specs.declared.work_token.WorkToken.{WorkToken}
 use Rattle.cb_paste.specs.Shades.{Shaded, seen}
 use Rattle.cb_paste.specs.Sets.{hides}
@@ -27,6 +28,12 @@ reading ms w t = At (outer_of ms w) (seen w.arena t ∷ rest_of w) (seen_all w.a
 -- what the token is (own)
 abbrev pub head_of : Named → Mode → Work → WorkToken → Head
 head_of ms mode w t = head ms mode (seen w.arena t) (rest_of w)
+
+-- the next token of the innermost list is no identifier (own)
+abbrev pub IsPlainNext : Work → Type 0
+IsPlainNext w =
+    (w.floor < length w.row.tokens.items)
+    × ((t : WorkToken) (ts : List WorkToken) → w.row.tokens.items ≡ ts ++ t ∷ [] → is_identifier_kind t.kind ≡ false)
 
 -- the token that was read is dealt with (own)
 pub record Taken (ms : Named) (mode : Mode) (old : Work) (t : WorkToken) (new : Work) (behind : Option Call) : Type 0 where

@@ -8,9 +8,9 @@ use Rattle.cb_expand.proofs.Resuming.{length_row}
 use Rattle.cb_expand.proofs.Readings.{stood}
 use Rattle.cb_expand.proofs.reading.stand.Goals as goal
 
-pub returns : goal.returns
+pub returns-clause-taken : goal.returns-clause-taken
 unfolding state_of
-returns c = λ ms mode h t e.
+returns-clause-taken c = λ ms mode h t e.
     let w = c.args.work.now in
     let n = length_row w in
     record {
