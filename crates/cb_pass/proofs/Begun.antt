@@ -1,6 +1,7 @@
 -- The steps from what waits.
 use Rattle.std.proofs.Common.{◌≡◌, ℕ, Bool, true, false, List, [], ◌∷◌, refl, sym, ap, ◌∙◌, if◌then◌else◌}
 use Rattle.std.specs.Prelude.{◌==◌, length, Option, Some, None}
+use Rattle.std.proofs.lemmas.Bool.{cond-true, cond-false}
 use Rattle.cb_tree.specs.Skeleton.{Bone}
 use Rattle.cb_include.specs.declared.command.Command.{Command}
 use Rattle.cb_include.specs.declared.op.Op.{Op}
@@ -21,26 +22,18 @@ module _ (files : Files) (command : Command) (old new : Findings) (waiting : Lis
       → Goes files command (state_of old [] (Given op ∷ waiting)) (state_of new [] waiting)
   given op answer says does = step_goes files command (state_of old [] (Given op ∷ waiting)) (state_of new [] waiting) refl (answer, says, does [] waiting)
 
-  if_so : {X : Type 0} (test : Bool) (x y : X) → test ≡ true → (if test then x else y) ≡ x
-  if_so true x y e = refl
-  if_so false x y e = absurd cc
-
-  if_not : {X : Type 0} (test : Bool) (x y : X) → test ≡ false → (if test then x else y) ≡ y
-  if_not true x y e = absurd cc
-  if_not false x y e = refl
-
   -- a forced file of no name
   pub forced_none : (text : List ℕ) → (length text == 0) ≡ true → IsNoted old new (start_of command) note.BadInclude []
       → Goes files command (state_of old [] (Forced text ∷ waiting)) (state_of new [] waiting)
   forced_none text e noted =
       let s : State = state_of old [] waiting in
       let stays : (if length text == 0 then Stays else Searches None (start_of command) 0 (quote_header text)) ≡ Stays =
-      if_so (length text == 0) Stays (Searches None (start_of command) 0 (quote_header text)) e in
+      cond-true (length text == 0) Stays (Searches None (start_of command) 0 (quote_header text)) e in
       step_goes files command (state_of old [] (Forced text ∷ waiting)) (state_of new [] waiting) refl (
         Silent,
         refl,
         noted.0 [] waiting
-            ∙ (sym (if_so (length text == 0) (with_note (start_of command) note.BadInclude [] s) s e)
+            ∙ (sym (cond-true (length text == 0) (with_note (start_of command) note.BadInclude [] s) s e)
             ∙ ap (λ (r : Request). met files command r (if length text == 0 then with_note (start_of command) note.BadInclude [] s else s)) (sym stays)),
       )
 
@@ -51,12 +44,12 @@ module _ (files : Files) (command : Command) (old new : Findings) (waiting : Lis
   forced text file e meets =
       let s : State = state_of old [] waiting in
       let asks : (if length text == 0 then Stays else Searches None (start_of command) 0 (quote_header text)) ≡ Searches None (start_of command) 0 (quote_header text) =
-      if_not (length text == 0) Stays (Searches None (start_of command) 0 (quote_header text)) e in
+      cond-false (length text == 0) Stays (Searches None (start_of command) 0 (quote_header text)) e in
       step_goes files command (state_of old [] (Forced text ∷ waiting)) (state_of new (with_file file []) waiting) refl (
         Silent,
         refl,
         meets.0 [] waiting
-            ∙ (ap (λ (t : State). met files command (Searches None (start_of command) 0 (quote_header text)) t) (sym (if_not (length text == 0) (with_note (start_of command) note.BadInclude [] s) s e))
+            ∙ (ap (λ (t : State). met files command (Searches None (start_of command) 0 (quote_header text)) t) (sym (cond-false (length text == 0) (with_note (start_of command) note.BadInclude [] s) s e))
             ∙ ap (λ (r : Request). met files command r (if length text == 0 then with_note (start_of command) note.BadInclude [] s else s)) (sym asks)),
       )
 

@@ -1,6 +1,7 @@
 -- A search, and what is done with the path that it found.
 use Rattle.std.proofs.Common.{◌≡◌, ℕ, Bool, true, false, List, [], refl, sym, ap, subst, ◌∙◌, if◌then◌else◌}
 use Rattle.std.specs.Prelude.{Option, Some, None, nat_lt, ◌||◌, IfSome}
+use Rattle.std.proofs.lemmas.Bool.{cond-true, cond-false}
 use Rattle.std.specs.List.{find}
 use Rattle.std.proofs.Math.Path.{fun_ext}
 use Rattle.cb_include.specs.declared.command.Command.{Command}
@@ -83,19 +84,11 @@ pub finds : (files : Files) (command : Command) (from : Option (List ℕ)) (plac
 finds files command from place depth header old mid new path file e s entered =
     meets files command from place depth header old mid new (Some path) file e s (entered.0 header) entered.1 entered.2 entered.3
 
-if_so : {X : Type 0} (test : Bool) (x y : X) → test ≡ true → (if test then x else y) ≡ x
-if_so true x y e = refl
-if_so false x y e = absurd cc
-
-if_not : {X : Type 0} (test : Bool) (x y : X) → test ≡ false → (if test then x else y) ≡ y
-if_not true x y e = absurd cc
-if_not false x y e = refl
-
 module _ (files : Files) (place : Place) (depth : ℕ) (path : List ℕ) (old : Findings) where
   -- a file that is read once is not entered again
   pub stays : has_path old.memo.once path ≡ true → IsEntered files place depth path old old None
   stays e = (
-    λ header fs waiting. sym (if_so (has_path old.memo.once path) (state_of old fs waiting) _ e),
+    λ header fs waiting. sym (cond-true (has_path old.memo.once path) (state_of old fs waiting) _ e),
     tt,
     refl,
     refl,
@@ -108,7 +101,7 @@ module _ (files : Files) (place : Place) (depth : ℕ) (path : List ℕ) (old : 
     λ header fs waiting.
         let s : State = state_of old fs waiting in
         noted.0 fs waiting
-        ∙ sym (if_not (has_path old.memo.once path) s _ e ∙ if_so (nat_lt DEPTH_LIMIT depth) (with_note place note.TooDeep [] s) (entering path depth (files path) s) d),
+        ∙ sym (cond-false (has_path old.memo.once path) s _ e ∙ cond-true (nat_lt DEPTH_LIMIT depth) (with_note place note.TooDeep [] s) (entering path depth (files path) s) d),
     tt,
     noted.1,
     noted.2,
@@ -122,7 +115,7 @@ module _ (files : Files) (place : Place) (depth : ℕ) (path : List ℕ) (old : 
     λ header fs waiting.
         let s : State = state_of old fs waiting in
         does fs waiting
-        ∙ sym (if_not (has_path old.memo.once path) s _ e ∙ if_not (nat_lt DEPTH_LIMIT depth) (with_note place note.TooDeep [] s) (entering path depth (files path) s) d),
+        ∙ sym (cond-false (has_path old.memo.once path) s _ e ∙ cond-false (nat_lt DEPTH_LIMIT depth) (with_note place note.TooDeep [] s) (entering path depth (files path) s) d),
     placed,
     refl,
     refl,

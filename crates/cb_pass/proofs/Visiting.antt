@@ -3,7 +3,7 @@ use Rattle.std.proofs.Common.{◌≡◌, ℕ, ◌<◌, Bool, true, false, List, 
 use Rattle.std.specs.Prelude.{◌&&◌, ◌||◌, ◌==◌, not, nat_le, Option, Some, None}
 use Prim.Native.Nat.{suc}
 use Rattle.std.proofs.Math.Path.{fun_ext}
-use Rattle.std.proofs.lemmas.Bool.{lt-leb}
+use Rattle.std.proofs.lemmas.Bool.{lt-leb, cond-true, cond-false}
 use Rattle.std.proofs.lemmas.List.{append-nil}
 use Rattle.std.specs.Str.{bytes_eq}
 use Rattle.cb_paths.specs.declared.language.Language.{Language}
@@ -86,10 +86,6 @@ unspent : {X : Type 0} (spent active : Bool) (x y : X) → spent ≡ false → (
 unspent true active x y e = absurd cc
 unspent false active x y e = refl
 
-if_not : {X : Type 0} (test : Bool) (x y : X) → test ≡ false → (if test then x else y) ≡ y
-if_not true x y e = absurd cc
-if_not false x y e = refl
-
 pub not_full : (r : Bool) (count : ℕ) → count < NODE_LIMIT → (r && nat_le NODE_LIMIT count) ≡ false
 not_full true count h = lt-leb NODE_LIMIT count h
 not_full false count h = refl
@@ -166,7 +162,7 @@ module _ (language : Language) (f : Frame) (b : Bone) (bs : List Bone) (old mid 
         ap (λ (t : Findings). state_of t (after ∷ fs) waiting) same
         ∙ (acted.2 (state_of mid (after ∷ fs) waiting)
         ∙ (ap (λ (s : State). (if is_active b.kind f.sections then effect b.kind (place_in f) (rest_of b.tokens) acted.0 s else s)) counted_state
-        ∙ sym (if_not (is_spent b.kind f.sections old.count) (ended (place_in f) (state_of old (f ∷ fs) waiting)) (behind acted.0 f b bs fs (state_of old (f ∷ fs) waiting)) not_spent)))
+        ∙ sym (cond-false (is_spent b.kind f.sections old.count) (ended (place_in f) (state_of old (f ∷ fs) waiting)) (behind acted.0 f b bs fs (state_of old (f ∷ fs) waiting)) not_spent)))
 
   asks_files : frame_request f (b ∷ bs) old.count answer ≡ wanted f header
   unfolding answer
@@ -233,10 +229,6 @@ is_spent_end : {X : Type 0} (spent active : Bool) (x y : X) → spent ≡ true �
 is_spent_end true active x y e = refl
 is_spent_end false active x y e = absurd cc
 
-if_so : {X : Type 0} (test : Bool) (x y : X) → test ≡ true → (if test then x else y) ≡ x
-if_so true x y e = refl
-if_so false x y e = absurd cc
-
 ends_at : (files : Files) (command : Command) (old new : Findings) (f : Frame) (rest : List Bone) (kind : NodeKind) → next_kind rest ≡ Some kind → is_reached kind f.sections ≡ true
     → old.count ≡ NODE_LIMIT → IsNoted old new (place_in f) note.Budget [] → (fs : List Frame) (waiting : List Waiting)
     → IsStep files command (state_of old (record f { rest = rest } ∷ fs) waiting) (state_of new [] [])
@@ -250,7 +242,7 @@ ends_at files command old new f (b ∷ bs) kind next reached count noted fs wait
       subst (λ (q : Question). IsAnswered command.language old.memo.macros q Silent)
           (sym (is_spent_end (is_spent b.kind f.sections old.count) (is_active b.kind f.sections) (question_of b.kind (rest_of b.tokens)) Nothing e)) refl,
       noted.0 [] []
-          ∙ (sym (if_so (is_spent b.kind f.sections old.count) (ended (place_in g) s) (behind Silent g b bs fs s) e)
+          ∙ (sym (cond-true (is_spent b.kind f.sections old.count) (ended (place_in g) s) (behind Silent g b bs fs s) e)
           ∙ ap (λ (q : Request). met files command q (turned_frame Silent g (b ∷ bs) fs s))
           (sym (is_spent_end (is_spent b.kind f.sections old.count) (is_active b.kind f.sections) (node_request b.kind g Silent) Stays e))),
     )
