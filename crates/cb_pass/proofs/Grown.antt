@@ -1,6 +1,6 @@
 -- The probes of a pass only grow.
 use Rattle.std.proofs.Common.{◌≡◌, ℕ, Bool, true, false, List, [], ◌∷◌, ◌++◌, refl, sym, ap, ◌∙◌, append_assoc, if◌then◌else◌}
-use Rattle.std.specs.Prelude.{Option, Some, None}
+use Rattle.std.specs.Prelude.{Option, Some, None, slice_get}
 use Rattle.std.proofs.lemmas.List.{append-nil}
 use Rattle.std.specs.List.{find}
 use Rattle.cb_tokens.specs.declared.token.Token.{Token}
@@ -17,7 +17,7 @@ use Rattle.cb_pass.specs.Steps.{first_name, answered, name_noted, effect, counte
 use Rattle.cb_include.specs.Candidates.{candidates}
 use Rattle.cb_include.specs.Seen.{has_path, with_path, with_paths, up_to}
 use Rattle.cb_pass.specs.Files.{Files, Request, Stays, Begins, Searches, request, start_of, entering, is_present, found_path, met, stepped}
-use Rattle.cb_pass.specs.Passes.{Leads, over, goes}
+use Rattle.cb_pass.specs.Passes.{Leads, over, goes, start, start_with, IsPass}
 
 -- a list goes on
 abbrev pub Grows : List (List ℕ) → List (List ℕ) → Type 0
@@ -139,3 +139,14 @@ leads_grows files command end s (over h e) = same_grows _ _ (ap (λ (o : Outcome
 leads_grows files command end s (goes h answer says more) =
     grows_on s.probes (stepped files command answer s).probes end.probes (stepped_grows files command answer s)
     (leads_grows files command end (stepped files command answer s) more)
+
+starts_there : (command : Command) (bones : Option (List Bone)) → (start_with command bones).probes ≡ command.main ∷ []
+starts_there command None = refl
+starts_there command (Some bones) = refl
+
+-- the main file stands first
+pub main_first : (files : Files) (command : Command) (end : Outcome) → IsPass files command end
+    → slice_get end.probes 0 ≡ Some command.main
+main_first files command end passes =
+    let grows : Grows (start files command).probes end.probes = leads_grows files command end (start files command) passes in
+    ap (λ ps. slice_get ps 0) (grows.1 ∙ ap (λ ps. ps ++ grows.0) (starts_there command (files command.main)))

@@ -51,7 +51,8 @@ impl Passed {
         self.count
     }
 
-    /// The paths that the pass looked at, in the order in which it first did. The first is that of the main file.
+    /// The paths that the pass looked at, in the order in which it first did. The first is that of the main file, as
+    /// `pass` says.
     pub fn probes(&self) -> &Probes
         ensures { result.now ≡ self.now.probes }
     {

@@ -1,5 +1,5 @@
 //! The pass of one command.
-ghost use Rattle.std.specs.Prelude.{◌≡◌, ◌∷◌, ◌++◌, ◌+◌, [], List, map, min, Some, IfOk, OnOk, OnErr};
+ghost use Rattle.std.specs.Prelude.{◌≡◌, ◌∷◌, ◌++◌, ◌+◌, [], List, map, min, slice_get, Some, IfOk, OnOk, OnErr};
 ghost use Rattle.cb_tree.specs.Skeleton.{skeleton};
 ghost use Rattle.cb_pass.specs.Ends.{end_of};
 ghost use Rattle.cb_pass.specs.Files.{Agree, Files as Skeletons};
@@ -24,8 +24,8 @@ use cb_paths::{Bytes, NoMemory};
 use cb_tree::Tree;
 use std::alloc::Global;
 
-/// The pass of a command over files. The meter rises by the number of the nodes that it reaches. Its one error is being
-/// out of memory; the meter is then as it was.
+/// The pass of a command over files. The meter rises by the number of the nodes that it reaches. The main file stands
+/// first among the paths that it looks at. Its one error is being out of memory; the meter is then as it was.
 ///
 /// Over any other files that agree with these on the probes, in absence or in skeleton, the pass is the same.
 pub fn pass<F: Files>(
@@ -35,6 +35,7 @@ pub fn pass<F: Files>(
     meter: &mut Meter,
 ) -> Result<Passed, NoMemory>
     ensures value { IfOk result (λ passed. IsPass (F.skeletons files.now) command.now (end_of passed)) }
+    ensures first { IfOk result (λ passed. slice_get passed.probes 0 ≡ Some command.now.main) }
     ensures frame { (other : Skeletons) → IfOk result (λ passed. Agree (F.skeletons files.now) other passed.probes
         → IsPass other command.now (end_of passed)) }
     ensures meter { IfOk result (λ passed. meter.new ≡ min (meter.old + passed.count) meter_limit) }
