@@ -157,7 +157,8 @@ impl Memory {
         name: Option<&[u8]>,
     ) -> Result<(), NoMemory>
         ensures { OnOk result ((s : State) → with_memo self.new s
-            ≡ name_noted (record { path = path.now; node = node }) (option_copied name.entry) (with_memo self.old s)) }
+            ≡ name_noted (record { path = path.now; node = node }) (option_copied name.entry)
+            (with_memo self.old s)) }
     {
         match name {
             Some(_name) => Ok(()),

@@ -1,7 +1,8 @@
 //! The header that tokens name as they are written.
 ghost use Rattle.std.specs.Prelude.{◌≡◌, ◌∷◌, ◌++◌, ◌-◌, length, take, IfOk, OnOk};
 ghost use Rattle.std.specs.Option.{option_copied, option_map};
-ghost use Rattle.cb_pass.specs.Headers.{between_quotes, up_to_greater, space_before, quote_header, angle_header, header_of};
+ghost use Rattle.cb_pass.specs.Headers.{between_quotes, up_to_greater, space_before};
+ghost use Rattle.cb_pass.specs.Headers.{quote_header, angle_header, header_of};
 
 use cb_include::Header;
 use cb_paths::{Bytes, NoMemory};

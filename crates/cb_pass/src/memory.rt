@@ -83,7 +83,8 @@ impl Memory {
         node: u32,
         defined: Defined,
     ) -> Result<(), NoMemory>
-        ensures { OnOk result ((different : Bool) × IsChange (found self.old.macros defined.name) defined.body different
+        ensures { OnOk result ((different : Bool)
+            × IsChange (found self.old.macros defined.name) defined.body different
             × ((s : State) → with_memo self.new s
             ≡ answered (record { path = path.now; node = node }) [] (Defines defined.name defined.body different)
             (with_memo self.old s))) }

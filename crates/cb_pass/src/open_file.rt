@@ -41,7 +41,13 @@ impl<'a> Model for OpenFile<'a> {
     ghost Value = { Opened };
 
     ghost view = { λ f. record {
-      frame = record { path = f.path; node = suc f.passed; rest = drop f.passed (skeleton f.tree.now); depth = f.depth; sections = f.sections };
+      frame = record {
+        path = f.path;
+        node = suc f.passed;
+        rest = drop f.passed (skeleton f.tree.now);
+        depth = f.depth;
+        sections = f.sections;
+      };
       place = f.place;
     } };
 

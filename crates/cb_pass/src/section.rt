@@ -1,6 +1,7 @@
 //! The if sections that are open at a place of a source.
 ghost use Rattle.std.specs.Prelude.{◌≡◌, [], OnOk};
-ghost use Rattle.cb_pass.specs.Sections.{is_live, is_before_live, may_be_taken, entered, continued, turned, closed, section_continued, section_turned};
+ghost use Rattle.cb_pass.specs.Sections.{is_live, is_before_live, may_be_taken};
+ghost use Rattle.cb_pass.specs.Sections.{entered, continued, turned, closed, section_continued, section_turned};
 ghost use Rattle.cb_pass.specs.Steps.{sections_behind};
 
 use cb_paths::NoMemory;

@@ -76,7 +76,8 @@ fn include<'a, F: Files>(
 ) -> Result<Option<OpenFile<'a>>, NoMemory>
     ensures { IfOk result (λ file. (node : ℕ) → from.now.frame.node ≡ suc node
         → IsMet (F.skeletons files.now) command.now
-        (Searches (Some from.now.frame.path) (record { path = from.now.frame.path; node = node }) (from.now.frame.depth + 1) header.now)
+        (Searches (Some from.now.frame.path) (record { path = from.now.frame.path; node = node })
+        (from.now.frame.depth + 1) header.now)
         trail.old trail.new file) }
 {
     let origin = Origin::File(from.path());

@@ -116,7 +116,8 @@ fn force_all<F: Files>(
     trail: &mut Trail,
 ) -> Result<Reading, NoMemory>
     ensures { IfOk result (λ reading. (waiting : List Waiting) → Goes (F.skeletons files.now) command.now
-        (state_of trail.old [] (map Forced command.now.forced ++ waiting)) (state_of trail.new [] (left_of reading waiting))) }
+        (state_of trail.old [] (map Forced command.now.forced ++ waiting))
+        (state_of trail.new [] (left_of reading waiting))) }
 {
     'texts: for text in command.forced.as_slice() {
         if let Reading::Cut = force(alloc, files, command, trail, text)? {
