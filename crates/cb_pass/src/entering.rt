@@ -1,5 +1,5 @@
 //! From a header to the file that is entered.
-ghost use Rattle.std.specs.Prelude.{◌≡◌, ◌≤◌, List, true, IfOk, OnOk};
+ghost use Rattle.std.specs.Prelude.{◌≡◌, ◌≤◌, List, nat_lt, true, IfOk, OnOk};
 ghost use Rattle.cb_include.specs.Candidates.{including};
 ghost use Rattle.cb_include.specs.Seen.{has_path};
 ghost use Rattle.cb_pass.specs.Files.{Searches};
@@ -48,7 +48,8 @@ pub(crate) fn enter_header<'a, F: Files>(
     header: &Header,
 ) -> Result<Option<OpenFile<'a>>, NoMemory>
     ensures { IfOk result (λ file. IsMet (F.skeletons files.now) command.now
-        (Searches (including from.entry) (record { path = path.now; node = node }) depth header.now) trail.old trail.new file) }
+        (Searches (including from.entry) (record { path = path.now; node = node }) depth header.now)
+        trail.old trail.new file) }
 {
     let found = trail.search(alloc, files, command, from, header)?;
     match found {
@@ -76,6 +77,13 @@ fn note_missing(
     Ok(())
 }
 
+/// Whether a depth is above the limit.
+fn is_too_deep(depth: u32) -> bool
+    ensures { result ≡ nat_lt DEPTH_LIMIT depth }
+{
+    depth > DEPTH_LIMIT
+}
+
 /// The file that is entered at a path that was found.
 fn enter_found<'a, F: Files>(
     alloc: Global,
@@ -94,7 +102,7 @@ fn enter_found<'a, F: Files>(
     if trail.is_read_once(&found) {
         return Ok(None);
     }
-    if depth > DEPTH_LIMIT {
+    if is_too_deep(depth) {
         trail.note(alloc, path, node, NoteKind::TooDeep, b"")?;
         return Ok(None);
     }

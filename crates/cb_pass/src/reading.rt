@@ -42,7 +42,7 @@ pub(crate) fn read<'a, F: Files>(
 {
     let mut opened = OpenFiles::new(alloc, file);
     'nodes: while let Some(kind) = opened.settle()? {
-        if trail.count() == NODE_LIMIT {
+        if trail.is_full() {
             end(alloc, trail, &opened.innermost, kind)?;
             return Ok(Reading::Cut);
         }

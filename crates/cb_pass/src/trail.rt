@@ -1,5 +1,6 @@
 //! What a pass found so far.
-ghost use Rattle.std.specs.Prelude.{◌≡◌, ◌<◌, ◌≤◌, ◌+◌, ◌++◌, ◌&&◌, ◌||◌, ◌==◌, ℕ, List, [], ◌∷◌, suc, length, max, true, false, OnOk, IfOk, IfSome, MatchOption};
+ghost use Rattle.std.specs.Prelude.{◌≡◌, ◌<◌, ◌≤◌, ◌+◌, ◌++◌, ◌&&◌, ◌||◌, ◌==◌, ℕ, List, [], ◌∷◌};
+ghost use Rattle.std.specs.Prelude.{suc, length, max, true, false, OnOk, IfOk, IfSome, MatchOption};
 ghost use Rattle.std.specs.List.{position_or_len, find};
 ghost use Rattle.std.specs.Str.{bytes_eq};
 ghost use Rattle.cb_include.specs.Candidates.{including, candidates};
@@ -60,12 +61,12 @@ impl Trail {
         })
     }
 
-    /// How many nodes were reached.
-    pub(crate) fn count(&self) -> u32
-        ensures count { result ≡ self.now.count }
-        ensures limited { result ≤ NODE_LIMIT }
+    /// Whether as many nodes were reached as a pass may reach.
+    pub(crate) fn is_full(&self) -> bool
+        ensures full { result ≡ true → self.now.count ≡ NODE_LIMIT }
+        ensures room { result ≡ false → self.now.count < NODE_LIMIT }
     {
-        self.count
+        self.count == NODE_LIMIT
     }
 
     /// A node is reached of the file whose path stands at a place.

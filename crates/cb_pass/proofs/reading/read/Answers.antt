@@ -7,8 +7,8 @@ use Rattle.cb_pass.proofs.Moves.{goes_on, step_goes}
 use Rattle.cb_pass.proofs.Stepping.{not_over}
 use Rattle.cb_pass.proofs.reading.read.Goals as goal
 
-pub returns-then-count-eq-NODE_LIMIT : goal.returns-then-count-eq-NODE_LIMIT
-returns-then-count-eq-NODE_LIMIT g c =
+pub returns-then-is_full : goal.returns-then-is_full
+returns-then-is_full g c =
     let files = g.F.Files.skeletons c.args.files.now in
     let command = c.args.command.now in
     let opened = c.settle.new.self in
