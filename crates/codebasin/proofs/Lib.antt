@@ -5,7 +5,6 @@ pub mod Definitions
 pub mod NumberSteps
 pub mod NumberTexts
 pub mod OneSaying
-pub mod PathPlaces
 pub mod ReachedLines
 pub mod SourcePath
 pub mod Statuses

@@ -77,7 +77,7 @@ fn text_of(alloc: Global, tree: &Tree, command: &Command) -> Result<Vec<u8>, NoM
     let files = OneFile { tree };
     let mut meter = Meter::new();
     let passed = pass(alloc, &files, command, &mut meter)?;
-    reached_text(alloc, tree, &passed, &command.main)
+    reached_text(alloc, tree, passed.row(0))
 }
 
 /// What is said of a sound source, with these words of `-D`.

@@ -1,7 +1,9 @@
 //! The arguments of the program.
-ghost use Rattle.std.specs.Prelude.{◌≡◌, ◌<◌, ◌↔◌, length, map, string_bytes, All, IsTrue, IfOk, IfNone, IfSome, MatchOption, Some, None};
+ghost use Rattle.std.specs.Prelude.{◌≡◌, ◌<◌, ◌↔◌, length, map, string_bytes, All, IsTrue};
+ghost use Rattle.std.specs.Prelude.{IfOk, IfNone, IfSome, MatchOption, Some, None};
 ghost use Rattle.std.specs.Option.{option_copied, option_map};
-ghost use Rattle.codebasin.specs.Words.{joined_word, before, words_in, words_asked, Specialise, IsDefinition, Asks, AsksNothing};
+ghost use Rattle.codebasin.specs.Words.{joined_word, before, words_in, words_asked};
+ghost use Rattle.codebasin.specs.Words.{Specialise, IsDefinition, Asks, AsksNothing};
 
 use cb_macro::{DefineFault, define_word};
 use cb_paths::{Bytes, NoMemory};

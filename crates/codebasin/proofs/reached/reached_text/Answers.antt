@@ -1,6 +1,6 @@
 use Rattle.std.proofs.Common.{◌<◌, [], ◌++◌, length, ap, ◌∙◌, arith}
 use Rattle.std.specs.Prelude.{if◌then◌else◌}
-use Rattle.cb_pass.specs.Ends.{end_of}
+use Rattle.cb_pass.specs.Reached.{has_bit}
 use Rattle.codebasin.specs.Texts.{numbers_text}
 use Rattle.codebasin.proofs.ReachedLines.{text_more}
 use Rattle.codebasin.proofs.reached.reached_text.Goals as goal
@@ -12,6 +12,6 @@ nodes-preserved c =
     let counted = c.counted.result.now in
     let text = c.nodes.text.items in
     let within : index < length tree = omega (arith, c.len-index-end.ensures.count, c.nodes-test.true) in
-    let added = c.in_ok-push_where.ensures ∙ ap (λ r. text ++ numbers_text (if r then counted else [])) c.is_reached-reached.ensures in
-    text_more ((end_of c.args.passed.now).reached c.args.path.now) tree index counted text c.push_where.new.text.items within c.counted.ensures.lines added
+    let added = c.in_ok-push_where.ensures ∙ ap (λ r. text ++ numbers_text (if r then counted else [])) c.has.ensures in
+    text_more (has_bit c.args.row.now) tree index counted text c.push_where.new.text.items within c.counted.ensures.lines added
     ∙ c.nodes.invariant
