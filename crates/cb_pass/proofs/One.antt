@@ -1,18 +1,14 @@
 -- A pass has one outcome.
 use Rattle.std.proofs.Common.{◌≡◌, ℕ, ◌<◌, ◌≤◌, Bool, true, false, List, refl, sym, ap, subst, ◌∙◌, inl, inr, arith}
-use Rattle.std.specs.Prelude.{Option, Some, None, Result, option_and_then}
+use Rattle.std.specs.Prelude.{Option, Some, None, Result}
 use Rattle.cb_paths.specs.declared.language.Language.{Language}
 use Rattle.cb_tokens.specs.declared.token.Token.{Token}
 use Rattle.cb_cond.specs.declared.bad_condition.BadCondition.{BadCondition}
 use Rattle.cb_cond.specs.Symbols.{symbols}
 use Rattle.cb_cond.specs.Faults.{IsAnswer}
-use Rattle.cb_macro.specs.Definitions.{Definition, defines, undefines}
+use Rattle.cb_macro.specs.Definitions.{Definition, defines}
 use Rattle.cb_macro.specs.Maps.{found, IsChange}
-use Rattle.cb_macro.specs.Words.{AreLogicalLines, first_line, definition_text, first_tokens, WordDefines, WordUndefines}
-use Rattle.cb_lines.specs.declared.mark.Mark.{Mark}
-use Rattle.cb_lines.specs.Marks.{marks_of}
-use Rattle.cb_tokens.specs.Cut.{Piece, IsCut, HasOpenComment}
-use Rattle.cb_tokens.specs.Logical.{Line, AreLinesOf}
+use Rattle.cb_macro.specs.Words.{WordDefines, WordUndefines}
 use Rattle.cb_include.specs.declared.op.Op.{Op}
 use Rattle.cb_include.specs.declared.op.Op.TheVariants.{Define, Undef}
 use Rattle.cb_include.specs.declared.command.Command.{Command}
@@ -39,14 +35,14 @@ abbrev pub OneCondition : Type 0
 OneCondition = (language : Language) (tokens : List Token) (a b : Result Bool BadCondition)
     → IsAnswer (symbols language tokens) a → IsAnswer (symbols language tokens) b → a ≡ b
 
--- marks have one cut at most, and none where a comment is open
-abbrev pub OneCut : Type 0
-OneCut = (ms : List Mark) (a b : List Line) → AreLinesOf ms a → AreLinesOf ms b → a ≡ b
+-- a word after -D is read in one way, and so is a word after -U
+abbrev pub OneDefined : Type 0
+OneDefined = (word : List ℕ) (a b : Option (List ℕ × Definition)) → WordDefines word a → WordDefines word b → a ≡ b
 
-abbrev pub NoCut : Type 0
-NoCut = (ms : List Mark) (ps : List Piece) (line : ℕ) → IsCut ms ps → HasOpenComment ms line → ⊥
+abbrev pub OneUndefined : Type 0
+OneUndefined = (word : List ℕ) (a b : Option (List ℕ)) → WordUndefines word a → WordUndefines word b → a ≡ b
 
-module _ (expansion : OneExpansion) (condition : OneCondition) (cut : OneCut) (no_cut : NoCut) where
+module _ (expansion : OneExpansion) (condition : OneCondition) (one_defined : OneDefined) (one_undefined : OneUndefined) where
   not_both : (macros : Macros) (mode : Mode) (tokens out : List Token) → IsReplacement macros mode tokens out → IsTooDear macros mode tokens → ⊥
   not_both macros mode tokens out e long = let h : COST_LIMIT < e.0 = long out e.0 e.1 in let k : e.0 ≤ COST_LIMIT = e.2 in omega arith
 
@@ -63,12 +59,6 @@ module _ (expansion : OneExpansion) (condition : OneCondition) (cut : OneCut) (n
   one_truth : (language : Language) (a b : Answer) (tokens : List Token) → IsTruth language tokens a → IsTruth language tokens b → a ≡ b
   one_truth language a b tokens x y = x.2 ∙ (ap holds_or_not (condition language tokens x.0 y.0 x.1 y.1) ∙ sym y.2)
 
-  one_lines : (text : List ℕ) (a b : Option (List Line)) → AreLogicalLines text a → AreLogicalLines text b → a ≡ b
-  one_lines text None None x y = refl
-  one_lines text None (Some b) x y = absurd (no_cut (marks_of text) y.0 x.0 y.1 x.1)
-  one_lines text (Some a) None x y = absurd (no_cut (marks_of text) x.0 y.0 x.1 y.1)
-  one_lines text (Some a) (Some b) x y = ap Some (cut (marks_of text) a b x y)
-
   one_change : (before : Option Definition) (d : Definition) (a b : Bool) → IsChange before d a → IsChange before d b → a ≡ b
   one_change None d a b x y = x ∙ sym y
   one_change (Some other) d true true x y = refl
@@ -80,14 +70,6 @@ module _ (expansion : OneExpansion) (condition : OneCondition) (cut : OneCut) (n
   one_definition macros None a b x y = x ∙ sym y
   one_definition macros (Some d) a b x y =
       x.2 ∙ (ap (Defines d.0 d.1) (one_change (found macros d.0) d.1 x.0 y.0 x.1 y.1) ∙ sym y.2)
-
-  one_defined : (word : List ℕ) (a b : Option (List ℕ × Definition)) → WordDefines word a → WordDefines word b → a ≡ b
-  one_defined word a b x y =
-      x.2 ∙ (ap (λ (lines : Option (List Line)). option_and_then (λ ls. defines (first_tokens ls)) lines) (one_lines (definition_text word) x.0 y.0 x.1 y.1) ∙ sym y.2)
-
-  one_undefined : (word : List ℕ) (a b : Option (List ℕ)) → WordUndefines word a → WordUndefines word b → a ≡ b
-  one_undefined word a b x y =
-      x.2 ∙ (ap (λ (lines : Option (List Line)). option_and_then (λ ls. undefines (first_tokens ls)) lines) (one_lines (first_line word) x.0 y.0 x.1 y.1) ∙ sym y.2)
 
   one_word : (macros : Macros) (op : Op) (a b : Answer) → IsWord macros op a → IsWord macros op b → a ≡ b
   one_word macros (Define word) a b x y =

@@ -7,7 +7,7 @@ ghost use Rattle.cb_pass.specs.Passes.{IsPass};
 
 use cb_cond::one_condition;
 use cb_expand::one_expansion;
-use cb_tokens::one_cut;
+use cb_macro::one_word;
 
 /// The pass of a command over files has one outcome.
 pub fn one_pass()
@@ -16,7 +16,7 @@ pub fn one_pass()
 {
     one_expansion();
     one_condition();
-    one_cut();
+    one_word();
 }
 
 /// The pass of a command has the same outcome over any other files that agree with these on its probes, in absence or

@@ -1,7 +1,6 @@
 pub mod AnswerParts
 pub mod Asking
 pub mod CommandWords
-pub mod Definitions
 pub mod NumberSteps
 pub mod NumberTexts
 pub mod OneSaying

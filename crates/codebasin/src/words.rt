@@ -5,9 +5,8 @@ ghost use Rattle.std.specs.Option.{option_copied, option_map};
 ghost use Rattle.codebasin.specs.Words.{joined_word, before, words_in, words_asked};
 ghost use Rattle.codebasin.specs.Words.{Specialise, IsDefinition, Asks, AsksNothing};
 
-use cb_macro::{DefineFault, define_word};
+use cb_macro::{DefineFault, define_word, one_word};
 use cb_paths::{Bytes, NoMemory};
-use cb_tokens::one_cut;
 use std::alloc::Global;
 
 /// What stands behind `-D` in an argument that begins with it.
@@ -73,7 +72,7 @@ fn words_asked(alloc: Global, arguments: &[String]) -> Result<Option<Vec<Bytes>>
 fn is_definition(alloc: Global, word: &[u8]) -> Result<bool, NoMemory>
     ensures { IfOk result (λ is. IsTrue is ↔ IsDefinition word.now) }
 {
-    one_cut();
+    one_word();
     match define_word(alloc, word) {
         Ok(_defined) => Ok(true),
         Err(DefineFault::Bad) => Ok(false),

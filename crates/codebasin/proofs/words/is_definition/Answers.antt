@@ -1,9 +1,7 @@
-use Rattle.std.proofs.Common.{ap, Err}
-use Rattle.codebasin.proofs.Definitions.{OneCut, no_definition}
+use Rattle.std.proofs.Common.{◌≡◌, Err, Some, None, ap}
 use Rattle.codebasin.proofs.words.is_definition.Goals as goal
 
 pub returns-in-Err-Bad : goal.returns-in-Err-Bad
 returns-in-Err-Bad c =
-    let cut : OneCut = record { lines = c.one_cut.ensures.lines; no_cut = c.one_cut.ensures.no_cut } in
     let none = c.in-Err-Bad.ensures.bad (ap Err c.in-Err-Bad.field-0-is) in
-    (λ is. absurd cc, λ some. absurd (no_definition cut c.args.word.now some.0 none some.1))
+    (λ is. absurd cc, λ some. let same : None ≡ Some some.0 = c.one_word.ensures.defined c.args.word.now None (Some some.0) none some.1 in absurd cc)
