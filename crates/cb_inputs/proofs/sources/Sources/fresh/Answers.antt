@@ -1,0 +1,28 @@
+use Rattle.std.proofs.Common.{◌∙◌, sym, ap, length, []}
+use Rattle.cb_outside.specs.Tables.{Texts, put}
+use Rattle.cb_inputs.specs.Texts.{bytes_in, source_amounts}
+use Rattle.cb_inputs.specs.Sources.{source_texts}
+use Rattle.cb_inputs.specs.Refusals.{IsSourceFault}
+use Rattle.cb_inputs.proofs.Denials.{body_decides, limit_decides, none_denied}
+use Rattle.cb_inputs.proofs.sources.Sources.fresh.Goals as goal
+
+pub returns-in-Err-clause-cause : goal.returns-in-Err-clause-cause
+returns-in-Err-clause-cause c = c.in-Err.ensures.cause (source_amounts (put c.args.path.now c.args.bytes.now (source_texts c.args.self.now)))
+
+pub returns-in-Err-clause-only : goal.returns-in-Err-clause-only
+returns-in-Err-clause-only c =
+    body_decides (IsSourceFault c.args.bytes.now) (source_amounts (put c.args.path.now c.args.bytes.now (source_texts c.args.self.now))) c.in-Err.refused (c.in-Err.ensures.cause []) c.in-Err.ensures.only
+
+pub returns-in-Some-clause-only : goal.returns-in-Some-clause-only
+returns-in-Some-clause-only c =
+    let texts : Texts = put c.args.path.now c.args.bytes.now (source_texts c.args.self.now) in
+    let count = c.sizes_with-sizes.ensures.count ∙ ap (λ es. length (put c.args.path.now c.args.bytes.now (source_texts es))) c.self.view_is in
+    let bytes = c.sizes_with-sizes.ensures.bytes ∙ ap (λ es. bytes_in (put c.args.path.now c.args.bytes.now (source_texts es))) c.self.view_is in
+    limit_decides (IsSourceFault c.args.bytes.now) (source_amounts texts) c.in-Ok.ensures.sound c.in-Some.name c.in-Some.amount (sym (c.in-Some.ensures.first texts count bytes))
+
+pub returns-in-Ok-copy-clause-sound : goal.returns-in-Ok-copy-clause-sound
+returns-in-Ok-copy-clause-sound c =
+    let texts : Texts = put c.args.path.now c.args.bytes.now (source_texts c.args.self.now) in
+    let count = c.sizes_with-sizes.ensures.count ∙ ap (λ es. length (put c.args.path.now c.args.bytes.now (source_texts es))) c.self.view_is in
+    let bytes = c.sizes_with-sizes.ensures.bytes ∙ ap (λ es. bytes_in (put c.args.path.now c.args.bytes.now (source_texts es))) c.self.view_is in
+    none_denied (IsSourceFault c.args.bytes.now) (source_amounts texts) c.in-Ok.ensures.sound (sym (c.in-None.ensures.first texts count bytes))

@@ -1,0 +1,10 @@
+pub mod Texts
+pub mod Faults
+pub mod Refusals
+pub mod Databases
+pub mod Sources
+pub mod Inputs
+pub mod Readings
+pub mod Commands
+pub mod Outcomes
+pub mod inner

@@ -1,0 +1,86 @@
+//! The commands of an analysis.
+ghost use Rattle.std.specs.Prelude.{◌≡◌, Some, length, IfOk};
+ghost use Rattle.cb_paths.specs.Paths.{folder_at};
+ghost use Rattle.cb_inputs.specs.Commands.{makes, root_of};
+
+use cb_analysis::Analysis;
+use cb_compdb::{Entry, Made, command};
+use cb_paths::{Dir, NoMemory, PathFault};
+use std::alloc::Global;
+use std::marker::Model;
+
+/// What the entries of a database make, in their order, which contracts see as the list of it.
+#[derive(Drop)]
+pub struct MadeList {
+    items: Vec<Made>,
+}
+
+impl Model for MadeList {
+    ghost use Rattle.std.specs.Prelude.{List};
+    ghost use Rattle.cb_compdb.specs.declared.made.Made.{Made};
+
+    ghost Value = { List Made };
+
+    ghost view = { λ m. m.items.items };
+}
+
+impl MadeList {
+    /// What the entries make, in their order.
+    pub fn as_slice(&self) -> &[Made]
+        ensures { result.now ≡ self.now }
+    {
+        self.items.as_slice()
+    }
+
+    /// The number of entries.
+    pub fn len(&self) -> usize
+        ensures { result ≡ length self.now }
+    {
+        self.items.len()
+    }
+
+    /// Forgets them all. It takes no memory.
+    pub fn clear(&mut self)
+        ensures { length self.new ≡ 0 }
+    {
+        self.items.clear();
+    }
+}
+
+/// What entries make, where `root` is the path that the top has in their database.
+pub fn made(alloc: Global, root: &Dir, entries: &[Entry]) -> Result<MadeList, NoMemory>
+    ensures { IfOk result (λ made. made ≡ makes root.now entries.now) }
+{
+    let mut items = Vec::new(alloc);
+    'entries: for entry in entries {
+        let made = command(alloc, entry, root)?;
+        items.push(made)?;
+    }
+    Ok(MadeList { items })
+}
+
+/// The folder that a text names from another, if it names one.
+#[tactic(auto, unfolding(cb_paths::specs::Paths::folder_at))]
+fn folder_at(alloc: Global, text: &[u8], base: &Dir) -> Result<Option<Dir>, NoMemory>
+    ensures { IfOk result (λ dir. dir ≡ folder_at text.now base.now) }
+{
+    match Dir::read(alloc, text, base) {
+        Ok(dir) => Ok(Some(dir)),
+        Err(PathFault::Bad(_)) => Ok(None),
+        Err(PathFault::NoMemory) => Err(NoMemory),
+    }
+}
+
+/// The path that the top has in the databases of an analysis: the folder that its root names, read from the base, and
+/// the base itself where it names none.
+pub fn root(alloc: Global, base: &Dir, analysis: &Analysis) -> Result<Dir, NoMemory>
+    ensures { IfOk result (λ root. root ≡ root_of base.now (Some analysis.now)) }
+{
+    let Some(text) = analysis.root() else {
+        return base.copy(alloc);
+    };
+    match folder_at(alloc, text, base)? {
+        Some(root) => Ok(root),
+        None => base.copy(alloc),
+    }
+}

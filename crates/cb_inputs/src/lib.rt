@@ -1,0 +1,20 @@
+//! The inputs of an analysis: what is read from them, how much of them is kept, and why an edit is refused.
+#![tactic(auto)]
+
+mod commands;
+mod database;
+mod databases;
+mod fault_text;
+mod laws;
+mod refused;
+mod sizes;
+mod source;
+mod sources;
+
+pub use commands::{MadeList, made, root};
+pub use database::Database;
+pub use databases::Databases;
+pub use laws::one_outcome;
+pub use refused::{BodyFault, LimitName, Refused};
+pub use source::Source;
+pub use sources::Sources;
