@@ -1,0 +1,7 @@
+//! Tests of `cb_inputs` over its public calls.
+#![tactic(auto)]
+
+#[cfg(test)]
+mod edits;
+#[cfg(test)]
+mod texts;
