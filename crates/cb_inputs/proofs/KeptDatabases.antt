@@ -1,12 +1,12 @@
 -- Databases that are put and taken away.
-use Rattle.std.proofs.Common.{◌≡◌, ◌∙◌, ℕ, ◌+◌, ◌-◌, ◌≤◌, List, length, All, Some, sym, ap, arith}
+use Rattle.std.proofs.Common.{◌≡◌, ◌∙◌, ℕ, ◌-◌, ◌≤◌, List, length, Some, sym, ap, arith}
 use Rattle.std.specs.BTreeMap.{insert_entry, is_at}
 use Rattle.std.specs.Map.{remove_entry}
 use Rattle.std.specs.Ordering.{nat_cmp}
 use Rattle.std.specs.Cmp.Lexicographic.{slice_cmp}
 use Rattle.std.proofs.lemmas.List.{length-map}
 use Rattle.std.proofs.lemmas.Map.Views.{All-values-insert_entry, All-map-remove_entry}
-use Rattle.cb_outside.specs.Tables.{put, removed}
+use Rattle.cb_outside.specs.Tables.{put}
 use Rattle.cb_inputs.specs.declared.database.Database.{Database}
 use Rattle.cb_inputs.specs.Texts.{ByPath, bytes_in, value_at}
 use Rattle.cb_inputs.specs.Databases.{database_texts, IsReadDatabase}

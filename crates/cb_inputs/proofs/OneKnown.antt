@@ -1,6 +1,5 @@
 -- Inputs say one thing.
 use Rattle.std.proofs.Common.{◌≡◌, ◌∙◌, ℕ, List, [], ◌∷◌, Option, Some, None, Ok, refl, sym, ap}
-use Rattle.std.specs.List.{AllZip}
 use Rattle.cb_outside.specs.Tables.{Texts}
 use Rattle.cb_tree.specs.Sound.{IsRead, Reading, Sound}
 use Rattle.cb_tree.specs.Nodes.{Node}

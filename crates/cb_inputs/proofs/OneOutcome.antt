@@ -1,5 +1,5 @@
 -- One thing comes of an edit.
-use Rattle.std.proofs.Common.{◌≡◌, ◌∙◌, ℕ, Bool, true, false, List, Some, None, refl, sym, ap}
+use Rattle.std.proofs.Common.{◌≡◌, ◌∙◌, ℕ, true, false, List, Some, None, refl, sym, ap}
 use Rattle.cb_tree.specs.Sound.{IsRead, Reading}
 use Rattle.cb_compdb.specs.declared.fault.BadDatabase.{BadDatabase}
 use Rattle.cb_compdb.specs.Databases.{HasFault}
@@ -11,7 +11,7 @@ use Rattle.cb_inputs.specs.Texts.{first_over}
 use Rattle.cb_inputs.specs.Refusals.{IsAnalysisFault, IsMeasurementsFault}
 use Rattle.cb_inputs.specs.Inputs.{Inputs, Edit, PutAnalysis, PutMeasurements, PutDatabase, PutSource, RemoveDatabase, RemoveSource, after}
 use Rattle.cb_inputs.specs.Readings.{Known, IsKnown}
-use Rattle.cb_inputs.specs.Outcomes.{HasBodyFault, is_put, RemovesNothing, IsGood, amounts, Outcome, Accepts, Denies, IsOutcome, absent, removes, faulty, over, puts}
+use Rattle.cb_inputs.specs.Outcomes.{HasBodyFault, is_put, RemovesNothing, amounts, Outcome, Denies, IsOutcome, absent, removes, faulty, over, puts}
 use Rattle.cb_inputs.proofs.Denials.{told_of}
 use Rattle.cb_inputs.proofs.DatabaseFaults as database
 use Rattle.cb_inputs.proofs.SourceFaults as source

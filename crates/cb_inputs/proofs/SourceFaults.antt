@@ -2,7 +2,6 @@
 use Rattle.std.proofs.Common.{◌≡◌, ◌⊎◌, ℕ, List, [], refl, ap, inl, inr}
 use Rattle.cb_tree.specs.Nodes.{Node}
 use Rattle.cb_tree.specs.Sound.{IsRead, Reading, Sound, Unsound}
-use Rattle.cb_tree.specs.declared.fault.BadSource.{BadSource}
 use Rattle.cb_inputs.specs.declared.refused.BodyFault.{BodyFault}
 use Rattle.cb_inputs.specs.declared.refused.BodyFault.TheVariants as body
 use Rattle.cb_inputs.specs.declared.refused.Refused.{Refused}

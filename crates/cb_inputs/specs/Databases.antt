@@ -1,5 +1,4 @@
 -- The databases that are kept.
-use Rattle.std.specs.Prelude.{ℕ, List}
 use Rattle.cb_compdb.specs.Databases.{IsDatabase}
 use Rattle.cb_outside.specs.Tables.{Texts}
 use Rattle.cb_inputs.specs.declared.database.Database.{Database}

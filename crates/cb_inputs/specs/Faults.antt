@@ -2,7 +2,6 @@
 use Rattle.std.specs.Prelude.{ℕ, List, [], ◌∷◌, ◌++◌, codes, decimal}
 use Rattle.cb_tree.specs.Faults.{fault_text}
 use Rattle.cb_analysis.specs.Faults.{kind_number, kind_name}
-use Rattle.cb_analysis.specs.declared.fault.BadAnalysis.{BadAnalysis}
 use Rattle.cb_compdb.specs.Faults.{fault_number, fault_name}
 use Rattle.cb_compdb.specs.declared.fault.BadDatabase.{BadDatabase}
 use Rattle.cb_compdb.specs.declared.fault.BadDatabase.TheVariants as database

@@ -1,6 +1,6 @@
 -- What comes of an edit.
-use Rattle.std.specs.Prelude.{◌≡◌, ℕ, ◌++◌, Bool, true, false, List, [], ◌∷◌, Option, Some, None, Err}
-use Rattle.cb_outside.specs.Tables.{Texts, text_at}
+use Rattle.std.specs.Prelude.{◌≡◌, ℕ, ◌++◌, Bool, true, false, List, [], ◌∷◌, Some, None}
+use Rattle.cb_outside.specs.Tables.{text_at}
 use Rattle.cb_inputs.specs.declared.refused.BodyFault.{BodyFault}
 use Rattle.cb_inputs.specs.declared.refused.LimitName.{LimitName}
 use Rattle.cb_inputs.specs.declared.refused.LimitName.TheVariants as limit

@@ -7,7 +7,7 @@ use Rattle.cb_compdb.specs.Databases.{HasFault}
 use Rattle.cb_inputs.specs.declared.refused.BodyFault.{BodyFault}
 use Rattle.cb_inputs.specs.declared.refused.BodyFault.TheVariants as body
 use Rattle.cb_inputs.specs.declared.refused.Refused.{Refused}
-use Rattle.cb_inputs.specs.declared.refused.Refused.TheVariants.{Body, Absent, Limit, Store, NoMemory}
+use Rattle.cb_inputs.specs.declared.refused.Refused.TheVariants.{Body, Limit, Store, NoMemory}
 use Rattle.cb_inputs.specs.declared.refused.LimitName.{LimitName}
 use Rattle.cb_inputs.specs.Texts.{first_over}
 

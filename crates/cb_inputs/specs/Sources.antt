@@ -1,5 +1,4 @@
 -- The sources that are kept.
-use Rattle.std.specs.Prelude.{ℕ, List}
 use Rattle.cb_tree.specs.Sound.{IsRead, Sound}
 use Rattle.cb_outside.specs.Tables.{Texts}
 use Rattle.cb_inputs.specs.declared.source.Source.{Source}
