@@ -23,7 +23,7 @@ fn tells(alloc: Global, text: &[u8], kind: &str, place: &str) -> Result<bool, No
 }
 
 /// Each row has one fault, or its first one stands before later ones.
-const FAULTS: [(&str, &str, &str); 47] = [
+const FAULTS: &[(&str, &str, &str)] = &[
     // The form of the file.
     ("platform", "NotToml", ""),
     ("platform = 1\nplatform = 2\n[codebase", "NotToml", ""),
@@ -220,8 +220,12 @@ const FAULTS: [(&str, &str, &str); 47] = [
 fn faults_are_told(rt: HostRuntime) -> Result<(), Fail> {
     is_shared::<Analysis>();
     one_reading();
-    for (text, kind, place) in FAULTS {
-        assert!(rt; tells(rt.alloc(), text.as_bytes(), kind, place)?, "{text}");
+    for row in FAULTS {
+        assert!(rt;
+            tells(rt.alloc(), row.0.as_bytes(), row.1, row.2)?,
+            "{}",
+            row.0
+        );
     }
     Ok(())
 }
@@ -276,7 +280,7 @@ type LargeRow = (
 const FINE: &str = "platform.a.commands = 'a'";
 
 /// Each limit as it stands, which is accepted, and one above it.
-const LARGE: [LargeRow; 9] = [
+const LARGE: &[LargeRow] = &[
     ((31, 0), FINE, "", "[]", "", ""),
     ((32, 0), FINE, "", "[]", "TooMany", "platform"),
     (
@@ -305,7 +309,7 @@ const LARGE: [LargeRow; 9] = [
 #[test]
 fn limits_hold(rt: HostRuntime) -> Result<(), Fail> {
     for row in LARGE {
-        assert!(rt; large_tells(rt.alloc(), &row)?, "{} {}", row.4, row.5);
+        assert!(rt; large_tells(rt.alloc(), row)?, "{} {}", row.4, row.5);
     }
     Ok(())
 }

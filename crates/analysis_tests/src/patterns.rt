@@ -8,7 +8,7 @@ use std::test::Fail;
 type Row = (&'static str, &'static str, bool);
 
 /// Ours are git's answers.
-const LIKE_GIT: [Row; 56] = [
+const LIKE_GIT: &[Row] = &[
     ("build/", "build/x.c", true),
     ("build/", "a/build/x.c", true),
     ("build/", "build", false),
@@ -68,7 +68,7 @@ const LIKE_GIT: [Row; 56] = [
 ];
 
 /// Git answers otherwise: a `**` at the end takes one part at least there, and before a last slash it takes a folder.
-const UNLIKE_GIT: [Row; 4] = [
+const UNLIKE_GIT: &[Row] = &[
     ("abc/**", "abc", true),
     ("a/**/", "a/b", true),
     ("**/", "a", true),
@@ -111,10 +111,12 @@ fn matches(alloc: Global, pattern: &str, path: &str, wanted: bool) -> Result<boo
 
 #[test]
 fn patterns_match_as_in_git(rt: HostRuntime) -> Result<(), Fail> {
-    for (pattern, path, wanted) in LIKE_GIT {
+    for row in LIKE_GIT {
         assert!(rt;
-            matches(rt.alloc(), pattern, path, wanted)?,
-            "{pattern} {path}"
+            matches(rt.alloc(), row.0, row.1, row.2)?,
+            "{} {}",
+            row.0,
+            row.1
         );
     }
     Ok(())
@@ -122,10 +124,12 @@ fn patterns_match_as_in_git(rt: HostRuntime) -> Result<(), Fail> {
 
 #[test]
 fn patterns_match_otherwise_than_in_git(rt: HostRuntime) -> Result<(), Fail> {
-    for (pattern, path, wanted) in UNLIKE_GIT {
+    for row in UNLIKE_GIT {
         assert!(rt;
-            matches(rt.alloc(), pattern, path, wanted)?,
-            "{pattern} {path}"
+            matches(rt.alloc(), row.0, row.1, row.2)?,
+            "{} {}",
+            row.0,
+            row.1
         );
     }
     Ok(())
