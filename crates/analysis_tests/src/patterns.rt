@@ -157,24 +157,33 @@ fn long_matches(
     matches(alloc, pattern.as_str(), path.as_str(), wanted)
 }
 
-/// A search that tries each place for each star would not end here.
+/// A text many times and an end, as a pattern and as a path, and whether the one matches the other.
+type LongRow = (
+    (&'static str, usize, &'static str),
+    (&'static str, usize, &'static str),
+    bool,
+);
+
+/// A search that tries each place for each star would not end on these.
+const LONG: &[LongRow] = &[
+    (("*", 1000, ""), ("a", 1024, ""), true),
+    (("*", 1000, "b"), ("a", 1024, ""), false),
+    (("*a", 500, "*b"), ("a", 1024, ""), false),
+    (("*a", 500, "b"), ("a", 1023, "b"), true),
+    (("**/", 500, "b"), ("a/", 511, "a"), false),
+    (("**/a/", 250, "b"), ("a/", 511, "a"), false),
+    (("**/a/", 250, "b"), ("a/", 511, "b"), true),
+    (("**/*a*a*/", 100, "b"), ("aaaa/", 200, "a"), false),
+];
+
 #[test]
 fn many_stars_end_at_once(rt: HostRuntime) -> Result<(), Fail> {
-    for (pattern, path, wanted) in [
-        (("*", 1000, ""), ("a", 1024, ""), true),
-        (("*", 1000, "b"), ("a", 1024, ""), false),
-        (("*a", 500, "*b"), ("a", 1024, ""), false),
-        (("*a", 500, "b"), ("a", 1023, "b"), true),
-        (("**/", 500, "b"), ("a/", 511, "a"), false),
-        (("**/a/", 250, "b"), ("a/", 511, "a"), false),
-        (("**/a/", 250, "b"), ("a/", 511, "b"), true),
-        (("**/*a*a*/", 100, "b"), ("aaaa/", 200, "a"), false),
-    ] {
+    for row in LONG {
         assert!(rt;
-            long_matches(rt.alloc(), pattern, path, wanted)?,
+            long_matches(rt.alloc(), row.0, row.1, row.2)?,
             "{} {}",
-            pattern.0,
-            path.0
+            (row.0).0,
+            (row.1).0
         );
     }
     Ok(())
