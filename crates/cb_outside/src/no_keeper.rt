@@ -42,9 +42,12 @@ impl Keeper for NoKeeper {
         Ok(0)
     }
 
-    fn load(&mut self, _i: u64) -> Result<Kept, KeepFault>
-        requires { ⊥ }
+    /// There is no entry to load: a call would be answered as out of memory.
+    fn load(&mut self, i: u64) -> Result<Kept, KeepFault>
+        requires { 0 ≤ i }
+        ensures { IsErrOf result KeepFault.NoMemory }
     {
-        unreachable!()
+        let _ = i;
+        Err(KeepFault::NoMemory)
     }
 }
