@@ -24,7 +24,7 @@ struct Case {
 }
 
 /// Code Base Investigator's documents define code divergence as the mean Jaccard distance of all pairs of platforms.
-const CASES: [Case; 7] = [
+const CASES: &[Case] = &[
     Case {
         name: "no platform",
         platforms: 0,
@@ -195,7 +195,7 @@ fn holds(alloc: Global, case: &Case) -> Result<bool, NoMemory> {
 
 #[test]
 fn platforms_are_clustered(rt: HostRuntime) -> Result<(), Fail> {
-    for case in &CASES {
+    for case in CASES {
         assert!(rt; holds(rt.alloc(), case)?, "{}", case.name);
     }
     Ok(())

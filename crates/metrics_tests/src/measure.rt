@@ -16,7 +16,7 @@ const WORKED: &[u8] =
     b"fom,other,application,platform,problem\n2,-,x,a,p\n1.0,-,y,a,p\n4,-,x,b,p\n3,-,z,b,p\n1,-,z,b,p\n5,,x,c,p\n2,,y,c,p\n7,,y,c,p\n";
 
 /// Files, the number of the fault of each, and its row; or 0 and the number of rows.
-const FILES: [(&[u8], u32, u32); 15] = [
+const FILES: &[(&[u8], u32, u32)] = &[
     (b"", 1, 1),
     (b"problem,platform,fom\n", 1, 1),
     (b"problem,platform,application,fom,fom\n", 1, 1),
@@ -66,8 +66,8 @@ fn outcome(alloc: Global, text: &[u8]) -> Result<(u32, u32), NoMemory> {
 #[test]
 fn faults_are_told(rt: HostRuntime) -> Result<(), Fail> {
     one_reading();
-    for (at, (text, number, row)) in FILES.iter().enumerate() {
-        assert!(rt; outcome(rt.alloc(), *text)? == (*number, *row), "{at}");
+    for (at, row) in FILES.iter().enumerate() {
+        assert!(rt; outcome(rt.alloc(), row.0)? == (row.1, row.2), "{at}");
     }
     Ok(())
 }
@@ -83,6 +83,11 @@ fn repeated(alloc: Global, rows: &[(&[u8], u32)]) -> Result<(u32, u32), NoMemory
     outcome(alloc, text.as_slice())
 }
 
+/// The outcome of a file with as many rows as there may be before one text.
+fn ends_in(alloc: Global, last: &[u8]) -> Result<(u32, u32), NoMemory> {
+    repeated(alloc, &[(b"p,a,x,1\n".as_slice(), 100_000), (last, 1)])
+}
+
 /// The outcome of a file with so many platforms.
 fn on_platforms(alloc: Global, count: u8) -> Result<(u32, u32), NoMemory> {
     let mut text = Vec::from_slice(alloc, b"problem,platform,application,fom\n")?;
@@ -95,23 +100,26 @@ fn on_platforms(alloc: Global, count: u8) -> Result<(u32, u32), NoMemory> {
     outcome(alloc, text.as_slice())
 }
 
+/// The text behind as many rows as there may be, the number of the fault, and its row or the number of rows.
+const LAST: &[(&[u8], u32, u32)] = &[
+    (b"", 0, 1000),
+    (b"p,a,x,1\n", 5, 100_002),
+    (b"p\n", 5, 100_002),
+];
+
+/// Numbers of platforms, the number of the fault of each, and its row or the number of rows.
+const PLATFORMS: &[(u8, u32, u32)] = &[(64, 0, 64), (65, 5, 66)];
+
 #[test]
 fn limits_are_kept(rt: HostRuntime) -> Result<(), Fail> {
-    for (last, number, row) in [
-        (b"".as_slice(), 0, 1000),
-        (b"p,a,x,1\n".as_slice(), 5, 100_002),
-        (b"p\n".as_slice(), 5, 100_002),
-    ] {
-        assert!(rt;
-            repeated(rt.alloc(), &[(b"p,a,x,1\n".as_slice(), 100_000), (last, 1)])?
-                == (number, row),
-            "{number}"
-        );
+    for row in LAST {
+        assert!(rt; ends_in(rt.alloc(), row.0)? == (row.1, row.2), "{}", row.1);
     }
-    for (count, number, row) in [(64, 0, 64), (65, 5, 66)] {
+    for row in PLATFORMS {
         assert!(rt;
-            on_platforms(rt.alloc(), count)? == (number, row),
-            "{count} platforms"
+            on_platforms(rt.alloc(), row.0)? == (row.1, row.2),
+            "{} platforms",
+            row.0
         );
     }
     Ok(())
@@ -121,7 +129,7 @@ fn limits_are_kept(rt: HostRuntime) -> Result<(), Fail> {
 const DROPPED: &[u8] = b"problem,platform,application,fom\np,a,x,1.0000019\np,a,y,1.000001\n";
 
 /// Files, an application and a platform of each, the efficiency there, and the portability of the application for p.
-const FIGURES: [(&[u8], &[u8], &[u8], Option<u64>, u64); 10] = [
+const FIGURES: &[(&[u8], &[u8], &[u8], Option<u64>, u64)] = &[
     (
         EXAMPLE,
         b"x",
@@ -170,16 +178,9 @@ fn says(
 
 #[test]
 fn figures_are_worked_out(rt: HostRuntime) -> Result<(), Fail> {
-    for (at, (text, application, platform, efficiency, portability)) in FIGURES.iter().enumerate() {
+    for (at, row) in FIGURES.iter().enumerate() {
         assert!(rt;
-            says(
-                rt.alloc(),
-                *text,
-                *application,
-                *platform,
-                *efficiency,
-                *portability
-            )?,
+            says(rt.alloc(), row.0, row.1, row.2, row.3, row.4)?,
             "{at}"
         );
     }
@@ -224,7 +225,7 @@ const CLOSE: &[u8] =
 type Steps = &'static [(&'static [u8], u64, u64)];
 
 /// Files, and the cascade of x for p of each.
-const CASCADES: [(&[u8], Steps); 3] = [
+const CASCADES: &[(&[u8], Steps)] = &[
     (
         FAILING,
         &[
@@ -252,8 +253,8 @@ const CASCADES: [(&[u8], Steps); 3] = [
 
 #[test]
 fn cascades_fall(rt: HostRuntime) -> Result<(), Fail> {
-    for (at, (text, wanted)) in CASCADES.iter().enumerate() {
-        assert!(rt; falls(rt.alloc(), *text, *wanted)?, "{at}");
+    for (at, row) in CASCADES.iter().enumerate() {
+        assert!(rt; falls(rt.alloc(), row.0, row.1)?, "{at}");
     }
     Ok(())
 }
@@ -275,7 +276,7 @@ fn names(
 }
 
 /// Files, their problems, and the applications and platforms of p, each with a line end behind it.
-const NAMES: [(&[u8], &[u8], &[u8], &[u8]); 3] = [
+const NAMES: &[(&[u8], &[u8], &[u8], &[u8])] = &[
     (EXAMPLE, b"p\n", b"x\ny\n", b"a\nb\n"),
     (WORKED, b"p\n", b"x\ny\nz\n", b"a\nb\nc\n"),
     (
@@ -288,11 +289,8 @@ const NAMES: [(&[u8], &[u8], &[u8], &[u8]); 3] = [
 
 #[test]
 fn names_are_listed(rt: HostRuntime) -> Result<(), Fail> {
-    for (at, (text, problems, applications, platforms)) in NAMES.iter().enumerate() {
-        assert!(rt;
-            names(rt.alloc(), *text, *problems, *applications, *platforms)?,
-            "{at}"
-        );
+    for (at, row) in NAMES.iter().enumerate() {
+        assert!(rt; names(rt.alloc(), row.0, row.1, row.2, row.3)?, "{at}");
     }
     Ok(())
 }

@@ -65,7 +65,7 @@ const EXAMPLE: &[u8] = b"problem,platform,application,fom\np,a,x,1\np,b,x,2\np,b
 /// The same with a failed run of x on c.
 const FAILING: &[u8] = b"problem,platform,application,fom\np,a,x,1\np,b,x,2\np,b,y,1\np,c,x,0\n";
 
-const CASES: [Case; 8] = [
+const CASES: &[Case] = &[
     Case {
         kind: Kind::Summary,
         platforms: &[b"cpu", b"gpu"],
@@ -138,7 +138,7 @@ const CASES: [Case; 8] = [
 ];
 
 /// Kinds of reports of measurements alone, files of measurements, and the texts. A file that is refused has none.
-const RUNS: [(Kind, &[u8], &[u8]); 6] = [
+const RUNS: &[(Kind, &[u8], &[u8])] = &[
     (
         Kind::Portability,
         EXAMPLE,
@@ -170,7 +170,7 @@ const RUNS: [(Kind, &[u8], &[u8]); 6] = [
 ];
 
 /// Groups of sources with equal bytes, and the text.
-const GROUPS: [(&[&[&[u8]]], &[u8]); 2] = [
+const GROUPS: &[(&[&[&[u8]]], &[u8])] = &[
     (
         &[&[b"f1.c", b"f2.c"], &[b"x.c", b"y.c"]],
         b"group 1\n  f1.c\n  f2.c\ngroup 2\n  x.c\n  y.c\n",
@@ -185,7 +185,7 @@ const GROUPS: [(&[&[&[u8]]], &[u8]); 2] = [
 type Notes = &'static [(&'static [u8], u32, u32, u32, &'static [u8])];
 
 /// Notes, and the text.
-const NOTES: [(Notes, &[u8]); 2] = [
+const NOTES: &[(Notes, &[u8])] = &[
     (
         &[
             (b"a.c", 0, 0, 10, b""),
@@ -371,11 +371,8 @@ fn runs_print(
 
 #[test]
 fn measurements_are_reported(rt: HostRuntime) -> Result<(), Fail> {
-    for (at, (kind, measurements, text)) in RUNS.iter().enumerate() {
-        assert!(rt;
-            runs_print(rt.alloc(), *kind, *measurements, *text)?,
-            "{at}"
-        );
+    for (at, row) in RUNS.iter().enumerate() {
+        assert!(rt; runs_print(rt.alloc(), row.0, row.1, row.2)?, "{at}");
     }
     Ok(())
 }
@@ -395,8 +392,8 @@ fn groups_print(alloc: Global, groups: &[&[&[u8]]], text: &[u8]) -> Result<bool,
 
 #[test]
 fn duplicates_are_reported(rt: HostRuntime) -> Result<(), Fail> {
-    for (at, (groups, text)) in GROUPS.iter().enumerate() {
-        assert!(rt; groups_print(rt.alloc(), *groups, *text)?, "{at}");
+    for (at, row) in GROUPS.iter().enumerate() {
+        assert!(rt; groups_print(rt.alloc(), row.0, row.1)?, "{at}");
     }
     Ok(())
 }
@@ -416,8 +413,8 @@ fn notes_print(alloc: Global, notes: Notes, text: &[u8]) -> Result<bool, NoMemor
 
 #[test]
 fn notes_are_reported(rt: HostRuntime) -> Result<(), Fail> {
-    for (at, (notes, text)) in NOTES.iter().enumerate() {
-        assert!(rt; notes_print(rt.alloc(), *notes, *text)?, "{at}");
+    for (at, row) in NOTES.iter().enumerate() {
+        assert!(rt; notes_print(rt.alloc(), row.0, row.1)?, "{at}");
     }
     Ok(())
 }
@@ -473,7 +470,7 @@ fn idle_entries_are_printed(rt: HostRuntime) -> Result<(), Fail> {
 }
 
 /// The names of kinds, and names that no kind has.
-const KINDS: [(&[u8], Option<Kind>); 12] = [
+const KINDS: &[(&[u8], Option<Kind>)] = &[
     (b"summary", Some(Kind::Summary)),
     (b"files", Some(Kind::Files)),
     (b"clustering", Some(Kind::Clustering)),
@@ -490,7 +487,7 @@ const KINDS: [(&[u8], Option<Kind>); 12] = [
 
 #[test]
 fn kinds_have_names(rt: HostRuntime) {
-    for (at, (name, kind)) in KINDS.iter().enumerate() {
-        assert!(rt; Kind::read(*name) == *kind, "{at}");
+    for (at, row) in KINDS.iter().enumerate() {
+        assert!(rt; Kind::read(row.0) == row.1, "{at}");
     }
 }

@@ -26,7 +26,7 @@ struct Case {
 /// The grid value of 1.
 const ALL: u64 = 1_000_000_000_000;
 
-const CASES: [Case; 6] = [
+const CASES: &[Case] = &[
     Case {
         name: "nothing",
         platforms: 0,
@@ -167,7 +167,7 @@ fn holds(alloc: Global, case: &Case) -> Result<bool, NoMemory> {
 #[test]
 fn setmaps_are_those_of_their_files(rt: HostRuntime) -> Result<(), Fail> {
     is_shared::<PlatformSet>();
-    for case in &CASES {
+    for case in CASES {
         assert!(rt; holds(rt.alloc(), case)?, "{}", case.name);
     }
     Ok(())
