@@ -12,7 +12,7 @@ enum Change {
 }
 
 /// The calls that are made, and whether each is done.
-const CHANGES: [(Change, bool); 7] = [
+const CHANGES: &[(Change, bool)] = &[
     (Change::Put(Table::Sources, b"b.c", b"two"), true),
     (Change::Put(Table::Sources, b"a.c", b"one"), true),
     (Change::Put(Table::Sources, b"a.c", b"three"), false),

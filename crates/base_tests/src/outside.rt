@@ -27,18 +27,20 @@ fn reads_as_wanted(source: &mut MemSource, rows: &[(Result<usize, Failed>, [u8; 
     rows.len()
 }
 
+/// What reads answer, and the buffer behind each.
+const READS: &[(Result<usize, Failed>, [u8; 4])] = &[
+    (Ok(1), *b"a\0\0\0"),
+    (Err(Failed), *b"a\0\0\0"),
+    (Ok(2), *b"bc\0\0"),
+    (Ok(4), *b"defg"),
+    (Ok(1), *b"hefg"),
+    (Ok(0), *b"hefg"),
+];
+
 #[test]
 fn reads_give_pieces(rt: HostRuntime) -> Result<(), Fail> {
-    let rows = [
-        (Ok(1), *b"a\0\0\0"),
-        (Err(Failed), *b"a\0\0\0"),
-        (Ok(2), *b"bc\0\0"),
-        (Ok(4), *b"defg"),
-        (Ok(1), *b"hefg"),
-        (Ok(0), *b"hefg"),
-    ];
     let mut source = letters(rt.alloc(), &[0, 9, 2], &[2])?;
-    assert!(rt; reads_as_wanted(&mut source, &rows) == 6);
+    assert!(rt; reads_as_wanted(&mut source, READS) == 6);
     Ok(())
 }
 
@@ -52,17 +54,19 @@ fn writes_as_wanted(sink: &mut MemSink, rows: &[(&[u8], Result<usize, Failed>)])
     rows.len()
 }
 
+/// Bytes that are written, and what each writing answers.
+const WRITES: &[(&[u8], Result<usize, Failed>)] = &[
+    (b"abc", Ok(3)),
+    (b"d", Err(Failed)),
+    (b"defg", Ok(2)),
+    (b"f", Err(Failed)),
+    (b"", Ok(0)),
+];
+
 #[test]
 fn writes_fill_the_room(rt: HostRuntime) -> Result<(), Fail> {
-    let rows = [
-        (b"abc".as_slice(), Ok(3)),
-        (b"d", Err(Failed)),
-        (b"defg", Ok(2)),
-        (b"f", Err(Failed)),
-        (b"", Ok(0)),
-    ];
     let mut sink = MemSink::new(rt.alloc(), 5, Numbers::from_slice(rt.alloc(), &[2])?)?;
-    assert!(rt; writes_as_wanted(&mut sink, &rows) == 5);
+    assert!(rt; writes_as_wanted(&mut sink, WRITES) == 5);
     assert!(rt; put_all(&mut sink, b"f") == Err(Failed) && sink.taken() == b"abcde".as_slice());
     Ok(())
 }
@@ -93,16 +97,19 @@ fn is_refused(alloc: Global) -> Result<bool, NoMemory> {
     }
 }
 
+/// Limits, and what is read up to each.
+const LIMITS: &[(usize, &[u8])] = &[
+    (0, b""),
+    (3, b"abc"),
+    (4, b"abcd"),
+    (8, b"abcdefgh"),
+    (9, b"abcdefgh"),
+];
+
 #[test]
 fn a_source_is_read_up_to_a_limit(rt: HostRuntime) -> Result<(), Fail> {
-    for (limit, wanted) in [
-        (0, b"".as_slice()),
-        (3, b"abc"),
-        (4, b"abcd"),
-        (8, b"abcdefgh"),
-        (9, b"abcdefgh"),
-    ] {
-        assert!(rt; is_taken(rt.alloc(), limit, wanted)?, "up to {limit}");
+    for row in LIMITS {
+        assert!(rt; is_taken(rt.alloc(), row.0, row.1)?, "up to {}", row.0);
     }
     assert!(rt; is_refused(rt.alloc())?);
     Ok(())
@@ -140,15 +147,18 @@ fn written(text: &[u8]) -> Result<[u8; 3], Failed> {
     Ok(writer.taken)
 }
 
+/// Texts, and what is written of each.
+const SHORT: &[(&[u8], Result<[u8; 3], Failed>)] = &[
+    (b"", Ok(*b"---")),
+    (b"ab", Ok(*b"ab-")),
+    (b"abc", Ok(*b"abc")),
+    (b"abcd", Err(Failed)),
+];
+
 #[test]
 fn short_writes_go_on(rt: HostRuntime) {
-    for (text, wanted) in [
-        (b"".as_slice(), Ok(*b"---")),
-        (b"ab", Ok(*b"ab-")),
-        (b"abc", Ok(*b"abc")),
-        (b"abcd", Err(Failed)),
-    ] {
-        assert!(rt; written(text) == wanted, "a text of {} bytes", text.len());
+    for row in SHORT {
+        assert!(rt; written(row.0) == row.1, "a text of {} bytes", row.0.len());
     }
 }
 

@@ -5,7 +5,7 @@ use std::test::Fail;
 
 fn is_shared<T: Send + Sync>() {}
 
-const TEXTS: [&[u8]; 7] = [
+const TEXTS: &[&[u8]] = &[
     b"",
     b"a",
     b"ab",
@@ -38,13 +38,21 @@ fn fronts_are_given(text: &[u8]) -> bool {
     true
 }
 
+/// Whether a text is kept, and its fronts are given.
+fn is_kept_with_fronts(alloc: Global, text: &[u8]) -> Result<bool, NoMemory> {
+    Ok(is_kept(alloc, text)? && fronts_are_given(text))
+}
+
 #[test]
 fn texts_are_kept(rt: HostRuntime) -> Result<(), Fail> {
     is_shared::<Bytes>();
     is_shared::<Texts>();
     for text in TEXTS {
-        let holds = is_kept(rt.alloc(), text)? && fronts_are_given(text);
-        assert!(rt; holds, "a text of {} bytes", text.len());
+        assert!(rt;
+            is_kept_with_fronts(rt.alloc(), text)?,
+            "a text of {} bytes",
+            text.len()
+        );
     }
     Ok(())
 }
@@ -67,47 +75,50 @@ fn listed(alloc: Global, texts: &[&[u8]]) -> Result<usize, NoMemory> {
 
 #[test]
 fn lists_of_texts_are_kept(rt: HostRuntime) -> Result<(), Fail> {
-    assert!(rt; listed(rt.alloc(), &TEXTS)? == 7);
+    assert!(rt; listed(rt.alloc(), TEXTS)? == 7);
     Ok(())
 }
 
 /// Names, and what are none: too long, empty, a byte that parts names, a space at an end, a byte that does not print.
+const NAMES: &[(&[u8], bool)] = &[
+    (b"a", true),
+    (b"GPU (2nd) ~!", true),
+    (&[b'a'; 64], true),
+    (&[b'a'; 65], false),
+    (b"", false),
+    (b" a", false),
+    (b"a ", false),
+    (b"a,b", false),
+    (b"{a", false),
+    (b"a}", false),
+    (b"a\"", false),
+    (b"a\tb", false),
+    (b"a\x7f", false),
+    (b"\xc3\xa4", false),
+];
+
 #[test]
 fn names_are_told(rt: HostRuntime) {
-    let longest = [b'a'; 64];
-    let longer = [b'a'; 65];
-    for (name, wanted) in [
-        (b"a".as_slice(), true),
-        (b"GPU (2nd) ~!".as_slice(), true),
-        (longest.as_slice(), true),
-        (longer.as_slice(), false),
-        (b"".as_slice(), false),
-        (b" a".as_slice(), false),
-        (b"a ".as_slice(), false),
-        (b"a,b".as_slice(), false),
-        (b"{a".as_slice(), false),
-        (b"a}".as_slice(), false),
-        (b"a\"".as_slice(), false),
-        (b"a\tb".as_slice(), false),
-        (b"a\x7f".as_slice(), false),
-        (b"\xc3\xa4".as_slice(), false),
-    ] {
-        assert!(rt; is_name(name) == wanted, "a name of {} bytes", name.len());
+    for row in NAMES {
+        assert!(rt; is_name(row.0) == row.1, "a name of {} bytes", row.0.len());
     }
 }
 
-/// Worked by hand: 1/3 and 2/3 of 10^12, rounded; a half of a unit goes up; means of two and of three values.
+/// Parts, wholes and shares, worked by hand: 1/3 and 2/3 of 10^12, rounded; a half of a unit goes up.
+const SHARES: &[(u64, u64, u64)] = &[
+    (0, 7, 0),
+    (7, 7, GRID_UNITS),
+    (1, 3, 333_333_333_333),
+    (2, 3, 666_666_666_667),
+    (1, 2_000_000_000_000, 1),
+    (1, 2_000_000_000_001, 0),
+];
+
+/// The shares, and means of two and of three values, worked by hand.
 #[test]
 fn the_grid_rounds_half_up(rt: HostRuntime) {
-    for (part, whole, wanted) in [
-        (0, 7, 0),
-        (7, 7, GRID_UNITS),
-        (1, 3, 333_333_333_333),
-        (2, 3, 666_666_666_667),
-        (1, 2_000_000_000_000, 1),
-        (1, 2_000_000_000_001, 0),
-    ] {
-        assert!(rt; share(part, whole) == wanted, "{part} of {whole}");
+    for row in SHARES {
+        assert!(rt; share(row.0, row.1) == row.2, "{} of {}", row.0, row.1);
     }
     assert!(rt; mean(1, 2) == 1 && mean(4, 3) == 1 && mean(5, 3) == 2 && mean(0, 3) == 0);
 }

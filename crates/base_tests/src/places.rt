@@ -38,33 +38,44 @@ fn path_is(alloc: Global, text: &[u8], wanted: Wanted) -> Result<bool, NoMemory>
     }
 }
 
+/// Texts of paths, and what the reading of each gives.
+const PATHS: &[(&[u8], Wanted)] = &[
+    (b"a/./b/../c.c", Wanted::Text(b"a/c.c")),
+    (b"a//b/", Wanted::Text(b"a/b")),
+    (b"a/b/../../c", Wanted::Text(b"c")),
+    (b"...", Wanted::Text(b"...")),
+    (b"a/..", Wanted::Fault(1)),
+    (b"", Wanted::Fault(1)),
+    (b"../a", Wanted::Fault(3)),
+    (b"a/../../b", Wanted::Fault(3)),
+    (b"/a", Wanted::Fault(3)),
+    (b"a\x01", Wanted::Fault(4)),
+    (b"/a\x7f", Wanted::Fault(4)),
+];
+
 #[test]
 fn paths_are_read(rt: HostRuntime) -> Result<(), Fail> {
     is_shared::<Path>();
-    let longest = [b'a'; 1024];
-    let longer = [b'a'; 1025];
-    for (text, wanted) in [
-        (b"a/./b/../c.c".as_slice(), Wanted::Text(b"a/c.c")),
-        (b"a//b/", Wanted::Text(b"a/b")),
-        (b"a/b/../../c", Wanted::Text(b"c")),
-        (b"...", Wanted::Text(b"...")),
-        (b"a/..", Wanted::Fault(1)),
-        (b"", Wanted::Fault(1)),
-        (b"../a", Wanted::Fault(3)),
-        (b"a/../../b", Wanted::Fault(3)),
-        (b"/a", Wanted::Fault(3)),
-        (b"a\x01", Wanted::Fault(4)),
-        (b"/a\x7f", Wanted::Fault(4)),
-        (longer.as_slice(), Wanted::Fault(2)),
-    ] {
+    for row in PATHS {
         assert!(rt;
-            path_is(rt.alloc(), text, wanted)?,
+            path_is(rt.alloc(), row.0, row.1)?,
             "a path of {} bytes",
-            text.len()
+            row.0.len()
         );
     }
-    let path = Path::read(rt.alloc(), &longest);
-    assert!(rt; path.is_ok());
+    Ok(())
+}
+
+#[test]
+fn paths_have_a_longest_length(rt: HostRuntime) -> Result<(), Fail> {
+    let longest = [b'a'; 1024];
+    let longer = [b'a'; 1025];
+    assert!(rt;
+        path_is(rt.alloc(), &longer, Wanted::Fault(2))?,
+        "a path of {} bytes",
+        longer.len()
+    );
+    assert!(rt; Path::read(rt.alloc(), &longest).is_ok());
     Ok(())
 }
 
@@ -81,31 +92,43 @@ fn folder_is(alloc: Global, base: &[u8], text: &[u8], wanted: Wanted) -> Result<
     }
 }
 
+/// A folder, the text of one from there, and what the reading gives.
+const FOLDERS: &[(&[u8], &[u8], Wanted)] = &[
+    (b"/a/b", b"../x", Wanted::Text(b"/a/x")),
+    (b"/a", b"../../x", Wanted::Text(b"/x")),
+    (b"/a", b"/b/./c//", Wanted::Text(b"/b/c")),
+    (b"/a", b"..", Wanted::Text(b"/")),
+    (b"/a", b"", Wanted::Text(b"/a")),
+    (b"/a", b"\x1f", Wanted::Fault(4)),
+];
+
 #[test]
 fn folders_are_read(rt: HostRuntime) -> Result<(), Fail> {
     is_shared::<Dir>();
-    let longer = [b'a'; 4097];
-    let long = [b'a'; 4096];
-    for (base, text, wanted) in [
-        (
-            b"/a/b".as_slice(),
-            b"../x".as_slice(),
-            Wanted::Text(b"/a/x"),
-        ),
-        (b"/a", b"../../x", Wanted::Text(b"/x")),
-        (b"/a", b"/b/./c//", Wanted::Text(b"/b/c")),
-        (b"/a", b"..", Wanted::Text(b"/")),
-        (b"/a", b"", Wanted::Text(b"/a")),
-        (b"/a", b"\x1f", Wanted::Fault(4)),
-        (b"/", longer.as_slice(), Wanted::Fault(2)),
-        (b"/", long.as_slice(), Wanted::Fault(2)),
-    ] {
+    for row in FOLDERS {
         assert!(rt;
-            folder_is(rt.alloc(), base, text, wanted)?,
+            folder_is(rt.alloc(), row.0, row.1, row.2)?,
             "a folder of {} bytes",
-            text.len()
+            row.1.len()
         );
     }
+    Ok(())
+}
+
+#[test]
+fn long_folders_are_refused(rt: HostRuntime) -> Result<(), Fail> {
+    let longer = [b'a'; 4097];
+    let long = [b'a'; 4096];
+    assert!(rt;
+        folder_is(rt.alloc(), b"/", &longer, Wanted::Fault(2))?,
+        "a folder of {} bytes",
+        longer.len()
+    );
+    assert!(rt;
+        folder_is(rt.alloc(), b"/", &long, Wanted::Fault(2))?,
+        "a folder of {} bytes",
+        long.len()
+    );
     Ok(())
 }
 
@@ -134,27 +157,25 @@ fn file_is(
     }
 }
 
+/// The text of a file, the folder it is read from, the root, and the path below the root; `-` where there is none.
+const FILES: &[(&[u8], &[u8], &[u8], &[u8])] = &[
+    (b"../src/m.c", b"/w/build", b"/w", b"src/m.c"),
+    (b"/w/a.c", b"/x", b"/w", b"a.c"),
+    (b"/wa.c", b"/x", b"/w", b"-"),
+    (b"/w", b"/x", b"/w", b"-"),
+    (b"/tmp/a.c", b"/w", b"/w", b"-"),
+    (b"a.c", b"/", b"/", b"a.c"),
+    (b"b\x01/../a.c", b"/", b"/", b"a.c"),
+    (b"\x01.c", b"/", b"/", b"-"),
+];
+
 #[test]
 fn files_are_found_below_a_root(rt: HostRuntime) -> Result<(), Fail> {
-    for (text, base, root, wanted) in [
-        (
-            b"../src/m.c".as_slice(),
-            b"/w/build".as_slice(),
-            b"/w".as_slice(),
-            b"src/m.c".as_slice(),
-        ),
-        (b"/w/a.c", b"/x", b"/w", b"a.c"),
-        (b"/wa.c", b"/x", b"/w", b"-"),
-        (b"/w", b"/x", b"/w", b"-"),
-        (b"/tmp/a.c", b"/w", b"/w", b"-"),
-        (b"a.c", b"/", b"/", b"a.c"),
-        (b"b\x01/../a.c", b"/", b"/", b"a.c"),
-        (b"\x01.c", b"/", b"/", b"-"),
-    ] {
+    for row in FILES {
         assert!(rt;
-            file_is(rt.alloc(), text, base, root, wanted)?,
+            file_is(rt.alloc(), row.0, row.1, row.2, row.3)?,
             "a file of {} bytes",
-            text.len()
+            row.0.len()
         );
     }
     Ok(())
@@ -167,21 +188,20 @@ fn holder_is(alloc: Global, root: &[u8], path: &[u8], wanted: &[u8]) -> Result<b
     Ok(folder.bytes() == wanted)
 }
 
+/// A root, a path below it, and the folder of the path.
+const HOLDERS: &[(&[u8], &[u8], &[u8])] = &[
+    (b"/w", b"src/m.c", b"/w/src"),
+    (b"/", b"a.c", b"/"),
+    (b"/w", b"a.c", b"/w"),
+];
+
 #[test]
 fn paths_have_folders(rt: HostRuntime) {
-    for (root, path, wanted) in [
-        (
-            b"/w".as_slice(),
-            b"src/m.c".as_slice(),
-            b"/w/src".as_slice(),
-        ),
-        (b"/", b"a.c", b"/"),
-        (b"/w", b"a.c", b"/w"),
-    ] {
+    for row in HOLDERS {
         assert!(rt;
-            holder_is(rt.alloc(), root, path, wanted) == Ok(true),
+            holder_is(rt.alloc(), row.0, row.1, row.2) == Ok(true),
             "a path of {} bytes",
-            path.len()
+            row.1.len()
         );
     }
 }
@@ -190,24 +210,27 @@ fn has_language(alloc: Global, path: &[u8], wanted: Option<Language>) -> Result<
     Ok(Path::read(alloc, path)?.language() == wanted)
 }
 
+/// Paths, and the language of each.
+const SUFFIXES: &[(&[u8], Option<Language>)] = &[
+    (b"a.c", Some(Language::C)),
+    (b".c", Some(Language::C)),
+    (b"a.h.c", Some(Language::C)),
+    (b"a.C", Some(Language::Cxx)),
+    (b"a.h", Some(Language::Cxx)),
+    (b"x.c/a.c++", Some(Language::Cxx)),
+    (b"x.c/a", None),
+    (b"c", None),
+    (b"a.f90", None),
+    (b"a.", None),
+];
+
 #[test]
 fn suffixes_name_languages(rt: HostRuntime) {
-    for (path, wanted) in [
-        (b"a.c".as_slice(), Some(Language::C)),
-        (b".c", Some(Language::C)),
-        (b"a.h.c", Some(Language::C)),
-        (b"a.C", Some(Language::Cxx)),
-        (b"a.h", Some(Language::Cxx)),
-        (b"x.c/a.c++", Some(Language::Cxx)),
-        (b"x.c/a", None),
-        (b"c", None),
-        (b"a.f90", None),
-        (b"a.", None),
-    ] {
+    for row in SUFFIXES {
         assert!(rt;
-            has_language(rt.alloc(), path, wanted) == Ok(true),
+            has_language(rt.alloc(), row.0, row.1) == Ok(true),
             "a path of {} bytes",
-            path.len()
+            row.0.len()
         );
     }
 }

@@ -8,7 +8,7 @@ use std::fs;
 use std::test::Fail;
 
 /// Files, of which the last one stands in place of one before it.
-const FILES: [(&[u8], &[u8]); 7] = [
+const FILES: &[(&[u8], &[u8])] = &[
     (b"src/x/d.c", b"d"),
     (b"a.c", b"short"),
     (b"src.c", b""),
@@ -42,8 +42,8 @@ fn add(alloc: Global, tree: &mut MemTree, path: &[u8], bytes: &[u8]) -> Result<(
 
 /// Adds the files.
 fn add_files(alloc: Global, tree: &mut MemTree) -> Result<(), NoMemory> {
-    for (path, bytes) in FILES {
-        add(alloc, tree, path, bytes)?;
+    for row in FILES {
+        add(alloc, tree, row.0, row.1)?;
     }
     Ok(())
 }
@@ -77,7 +77,7 @@ fn lists<T: Tree>(tree: &mut T, folder: &[u8], wanted: &[(&[u8], NameKind)]) -> 
 }
 
 /// Names in folders.
-const NAMES: [(&[u8], &[(&[u8], NameKind)]); 4] = [
+const NAMES: &[(&[u8], &[(&[u8], NameKind)])] = &[
     (
         b"",
         &[
