@@ -32,43 +32,31 @@ fn has_marks(alloc: Global, source: &[u8], bytes: &[u8], lines: &[u32]) -> Resul
     Ok(walk.rest().is_empty() && marker.next().is_none())
 }
 
+/// Sources, and the bytes and lines of the marks of each.
+const SOURCES: &[(&[u8], &[u8], &[u32])] = &[
+    (b"", b"", &[]),
+    (b"a\\\nb", b"ab", &[1, 2]),
+    (b"a\r\nb\n", b"a\nb\n", &[1, 1, 2, 2]),
+    (b"a\rb\r", b"a\rb\r", &[1, 1, 1, 1]),
+    (b"\\\r\n\\\ny", b"y", &[3]),
+    (b"\\\r\r\nx", b"\\\r\nx", &[1, 1, 1, 2]),
+    (b"\\\\\nx", b"\\x", &[1, 2]),
+    (b"\n\\ \nx\\", b"\n\\ \nx\\", &[1, 2, 2, 2, 3, 3]),
+    (
+        b"\r\n\r\n\n\n\n\\\n\n\n\n\na\\\r\nb",
+        b"\n\n\n\n\n\n\n\n\nab",
+        &[1, 2, 3, 4, 5, 7, 8, 9, 10, 11, 12],
+    ),
+];
+
 #[test]
 fn sources_have_their_marks(rt: HostRuntime) -> Result<(), Fail> {
     is_shared::<Marks>();
-    for (source, bytes, lines) in [
-        (b"".as_slice(), b"".as_slice(), [].as_slice()),
-        (b"a\\\nb".as_slice(), b"ab".as_slice(), [1, 2].as_slice()),
-        (
-            b"a\r\nb\n".as_slice(),
-            b"a\nb\n".as_slice(),
-            [1, 1, 2, 2].as_slice(),
-        ),
-        (
-            b"a\rb\r".as_slice(),
-            b"a\rb\r".as_slice(),
-            [1, 1, 1, 1].as_slice(),
-        ),
-        (b"\\\r\n\\\ny".as_slice(), b"y".as_slice(), [3].as_slice()),
-        (
-            b"\\\r\r\nx".as_slice(),
-            b"\\\r\nx".as_slice(),
-            [1, 1, 1, 2].as_slice(),
-        ),
-        (b"\\\\\nx".as_slice(), b"\\x".as_slice(), [1, 2].as_slice()),
-        (
-            b"\n\\ \nx\\".as_slice(),
-            b"\n\\ \nx\\".as_slice(),
-            [1, 2, 2, 2, 3, 3].as_slice(),
-        ),
-        (
-            b"\r\n\r\n\n\n\n\\\n\n\n\n\na\\\r\nb".as_slice(),
-            b"\n\n\n\n\n\n\n\n\nab".as_slice(),
-            [1, 2, 3, 4, 5, 7, 8, 9, 10, 11, 12].as_slice(),
-        ),
-    ] {
+    for row in SOURCES {
         assert!(rt;
-            has_marks(rt.alloc(), source, bytes, lines)?,
-            "of {source:?}"
+            has_marks(rt.alloc(), row.0, row.1, row.2)?,
+            "of {:?}",
+            row.0
         );
     }
     Ok(())
@@ -93,17 +81,22 @@ fn has_rows(alloc: Global, source: &[u8], lengths: &[usize]) -> Result<bool, NoM
     Ok(row_lengths(alloc, source)?.as_slice() == lengths)
 }
 
+/// A source whose first row has 48 marks.
+const FAR: &[u8] =
+    b"\\t\\t\\t\\t\\t\\t\\t\\t\\t\\t\\t\\t\\t\\t\\t\\t\\t\\t\\t\\t\\t\\t\\t\\t\\\r\n\\t\\\ne";
+
+/// Sources, and the lengths of the rows of each.
+const ROWS: &[(&[u8], &[usize])] = &[
+    (b"", &[]),
+    (b"ab\\\ncd\nef", &[2, 5]),
+    (b"\\\nab\\\n\\\nc\\\n", &[2, 1]),
+    (FAR, &[48, 2, 1]),
+];
+
 #[test]
 fn rows_end_at_splices(rt: HostRuntime) -> Result<(), Fail> {
-    let far =
-        b"\\t\\t\\t\\t\\t\\t\\t\\t\\t\\t\\t\\t\\t\\t\\t\\t\\t\\t\\t\\t\\t\\t\\t\\t\\\r\n\\t\\\ne".as_slice();
-    for (source, lengths) in [
-        (b"".as_slice(), [].as_slice()),
-        (b"ab\\\ncd\nef".as_slice(), [2, 5].as_slice()),
-        (b"\\\nab\\\n\\\nc\\\n".as_slice(), [2, 1].as_slice()),
-        (far, [48, 2, 1].as_slice()),
-    ] {
-        assert!(rt; has_rows(rt.alloc(), source, lengths)?, "of {source:?}");
+    for row in ROWS {
+        assert!(rt; has_rows(rt.alloc(), row.0, row.1)?, "of {:?}", row.0);
     }
     Ok(())
 }
@@ -129,17 +122,21 @@ fn counted_by_one(alloc: Global, marks: &Marks<'_>) -> Result<Lines, NoMemory> {
     Ok(lines)
 }
 
+/// Sources, and how many lines marks of each stand on.
+const COUNTED: &[(&[u8], u64)] = &[
+    (b"", 0),
+    (b"\n\n\r\nx", 4),
+    (b"ab\\\ncd\nef", 3),
+    (b"\\\n\\\r\nab\\\n\n\\\n", 2),
+];
+
 #[test]
 fn lines_of_marks_are_counted(rt: HostRuntime) -> Result<(), Fail> {
-    for (source, count) in [
-        (b"".as_slice(), 0),
-        (b"\n\n\r\nx".as_slice(), 4),
-        (b"ab\\\ncd\nef".as_slice(), 3),
-        (b"\\\n\\\r\nab\\\n\n\\\n".as_slice(), 2),
-    ] {
+    for row in COUNTED {
         assert!(rt;
-            counted(rt.alloc(), source)? == (count, count),
-            "of {source:?}"
+            counted(rt.alloc(), row.0)? == (row.1, row.1),
+            "of {:?}",
+            row.0
         );
     }
     Ok(())

@@ -42,29 +42,25 @@ fn is_made(
     Ok(has_spans(&lines, spans) && lines.count() == count)
 }
 
+/// Lines that are added in this order, the spans of their set, and how many lines it has.
+const ADDED: &[(&[u32], &[(u32, u32)], u64)] = &[
+    (&[], &[], 0),
+    (&[7, 7, 7], &[(7, 7)], 1),
+    (&[1, 3, 2], &[(1, 3)], 3),
+    (&[9, 2, 3], &[(2, 3), (9, 9)], 3),
+    (&[5, 4, 8], &[(4, 5), (8, 8)], 3),
+    (&[100, 99, 12, 11, 10, 98], &[(10, 12), (98, 100)], 6),
+    (&[MAX, 0, MAX - 1], &[(0, 0), (MAX - 1, MAX)], 3),
+];
+
 #[test]
 fn added_lines_make_maximal_spans(rt: HostRuntime) -> Result<(), Fail> {
     is_shared::<Lines>();
-    for (added, spans, count) in [
-        ([].as_slice(), [].as_slice(), 0),
-        ([7, 7, 7].as_slice(), [(7, 7)].as_slice(), 1),
-        ([1, 3, 2].as_slice(), [(1, 3)].as_slice(), 3),
-        ([9, 2, 3].as_slice(), [(2, 3), (9, 9)].as_slice(), 3),
-        ([5, 4, 8].as_slice(), [(4, 5), (8, 8)].as_slice(), 3),
-        (
-            [100, 99, 12, 11, 10, 98].as_slice(),
-            [(10, 12), (98, 100)].as_slice(),
-            6,
-        ),
-        (
-            [MAX, 0, MAX - 1].as_slice(),
-            [(0, 0), (MAX - 1, MAX)].as_slice(),
-            3,
-        ),
-    ] {
+    for row in ADDED {
         assert!(rt;
-            is_made(rt.alloc(), added, spans, count)?,
-            "lines {added:?}"
+            is_made(rt.alloc(), row.0, row.1, row.2)?,
+            "lines {:?}",
+            row.0
         );
     }
     Ok(())
@@ -121,7 +117,7 @@ fn makes(
 /// Two sets, and what they make, each by its spans.
 type Row<'a> = (Way, &'a [(u32, u32)], &'a [(u32, u32)], &'a [(u32, u32)]);
 
-const UNIONS: [Row<'static>; 3] = [
+const UNIONS: &[Row<'static>] = &[
     (Way::Union, &[(1, 1), (3, 3)], &[(2, 2)], &[(1, 3)]),
     (
         Way::Union,
@@ -132,7 +128,7 @@ const UNIONS: [Row<'static>; 3] = [
     (Way::Union, &[], &[(9, 9)], &[(9, 9)]),
 ];
 
-const DIFFERENCES: [Row<'static>; 5] = [
+const DIFFERENCES: &[Row<'static>] = &[
     (
         Way::Minus,
         &[(1, 9)],
@@ -155,7 +151,7 @@ const DIFFERENCES: [Row<'static>; 5] = [
     (Way::Minus, &[(3, 4)], &[(1, 9)], &[]),
 ];
 
-const APPENDED: [Row<'static>; 3] = [
+const APPENDED: &[Row<'static>] = &[
     (
         Way::Appended,
         &[(2, 3)],
@@ -171,17 +167,19 @@ const APPENDED: [Row<'static>; 3] = [
     (Way::Appended, &[(5, 6)], &[(1, 1)], &[(1, 1), (5, 6)]),
 ];
 
+/// The rows of each way.
+const PAIRS: &[&[Row<'static>]] = &[UNIONS, DIFFERENCES, APPENDED];
+
 #[test]
 fn two_sets_make_one(rt: HostRuntime) -> Result<(), Fail> {
-    for rows in [
-        UNIONS.as_slice(),
-        DIFFERENCES.as_slice(),
-        APPENDED.as_slice(),
-    ] {
-        for (way, some, others, wanted) in rows {
+    for rows in PAIRS {
+        for row in *rows {
             assert!(rt;
-                makes(rt.alloc(), *way, some, others, wanted)?,
-                "{way:?} of {some:?} and {others:?}"
+                makes(rt.alloc(), row.0, row.1, row.2, row.3)?,
+                "{:?} of {:?} and {:?}",
+                row.0,
+                row.1,
+                row.2
             );
         }
     }
@@ -210,22 +208,29 @@ fn goes_on(
     Ok((lines.has(first), stretch.is_held, stretch.last))
 }
 
+/// The spans of a set.
+const SPANS: &[(u32, u32)] = &[(3, 5), (9, 9), (20, MAX)];
+
+/// Where a stretch of those lines begins and may end, whether the lines are held, and where it ends.
+const STRETCHES: &[(u32, u32, bool, u32)] = &[
+    (1, 50, false, 2),
+    (3, 50, true, 5),
+    (4, 4, true, 4),
+    (6, 50, false, 8),
+    (6, 7, false, 7),
+    (9, 10, true, 9),
+    (10, 19, false, 19),
+    (21, MAX, true, MAX),
+];
+
 #[test]
 fn sets_go_on_as_they_begin(rt: HostRuntime) -> Result<(), Fail> {
-    let spans = [(3, 5), (9, 9), (20, MAX)];
-    for (first, last, is_held, end) in [
-        (1, 50, false, 2),
-        (3, 50, true, 5),
-        (4, 4, true, 4),
-        (6, 50, false, 8),
-        (6, 7, false, 7),
-        (9, 10, true, 9),
-        (10, 19, false, 19),
-        (21, MAX, true, MAX),
-    ] {
+    for row in STRETCHES {
         assert!(rt;
-            goes_on(rt.alloc(), &spans, first, last)? == (is_held, is_held, end),
-            "from {first} to {last}"
+            goes_on(rt.alloc(), SPANS, row.0, row.1)? == (row.2, row.2, row.3),
+            "from {} to {}",
+            row.0,
+            row.1
         );
     }
     Ok(())
