@@ -151,7 +151,7 @@ fn give(alloc: Global, words: &[u8], lines: &[u8]) -> Result<bool, NoMemory> {
 }
 
 /// Words, and what they give.
-const OPTIONS: [(&[u8], &[u8]); 13] = [
+const OPTIONS: &[(&[u8], &[u8])] = &[
     // No words, and no options: the first word is the compiler, whatever it looks like.
     (b"", b"work /w/b\n"),
     (b"cc", b"work /w/b\n"),
@@ -191,7 +191,7 @@ const OPTIONS: [(&[u8], &[u8]); 13] = [
 ];
 
 /// Words that are passed over, and what is left to give.
-const PASSED: [(&[u8], &[u8]); 7] = [
+const PASSED: &[(&[u8], &[u8])] = &[
     // Options whose next word is passed over too.
     (
         b"cc -o -DA -x -DB -MF -DC -MT -DD -MQ -DE -idirafter -DF -DG",
@@ -218,30 +218,22 @@ const PASSED: [(&[u8], &[u8]); 7] = [
 
 #[test]
 fn options_are_read(rt: HostRuntime) -> Result<(), Fail> {
-    for (words, wanted) in OPTIONS {
-        assert!(rt;
-            give(rt.alloc(), words, wanted)?,
-            "{}",
-            words.escape_ascii()
-        );
+    for row in OPTIONS {
+        assert!(rt; give(rt.alloc(), row.0, row.1)?, "{}", row.0.escape_ascii());
     }
     Ok(())
 }
 
 #[test]
 fn other_words_are_passed_over(rt: HostRuntime) -> Result<(), Fail> {
-    for (words, wanted) in PASSED {
-        assert!(rt;
-            give(rt.alloc(), words, wanted)?,
-            "{}",
-            words.escape_ascii()
-        );
+    for row in PASSED {
+        assert!(rt; give(rt.alloc(), row.0, row.1)?, "{}", row.0.escape_ascii());
     }
     Ok(())
 }
 
 /// Files, roots, and what their entries make.
-const SOURCES: [(&[u8], &[u8], &[u8]); 12] = [
+const SOURCES: &[(&[u8], &[u8], &[u8])] = &[
     // The worked example of two platforms: the second of them.
     (
         b"[{\"directory\":\"/\",\"file\":\"a.c\",\"arguments\":[\"cc\",\"-c\",\"a.c\",\"-DGPU\"]}]",
@@ -309,11 +301,11 @@ const SOURCES: [(&[u8], &[u8], &[u8]); 12] = [
 
 #[test]
 fn sources_are_placed(rt: HostRuntime) -> Result<(), Fail> {
-    for (file, root, wanted) in SOURCES {
+    for row in SOURCES {
         assert!(rt;
-            make(rt.alloc(), file, root, wanted)?,
+            make(rt.alloc(), row.0, row.1, row.2)?,
             "{}",
-            file.escape_ascii()
+            row.0.escape_ascii()
         );
     }
     Ok(())

@@ -25,7 +25,7 @@ fn place_of(bad: BadDatabase) -> u32 {
 type Row = (&'static [u8], u32, u32);
 
 /// Files that are no database as a whole, or whose items are no objects.
-const FORMS: [Row; 13] = [
+const FORMS: &[Row] = &[
     // No JSON: nothing, a byte order mark, an end that lacks, a text behind the value, bytes that are no UTF-8.
     (b"", 1, 0),
     (b"\xef\xbb\xbf[]", 1, 0),
@@ -50,7 +50,7 @@ const FORMS: [Row; 13] = [
 ];
 
 /// Items that lack a field, or have one of another type.
-const FIELDS: [Row; 12] = [
+const FIELDS: &[Row] = &[
     // Each field missing, and of another type.
     (b"[{}]", 4, 0),
     (b"[{\"file\":\"a.c\",\"command\":\"cc\"}]", 4, 0),
@@ -100,7 +100,7 @@ const FIELDS: [Row; 12] = [
 ];
 
 /// Quotes without an end, and which of two faults comes first.
-const ORDER: [Row; 13] = [
+const ORDER: &[Row] = &[
     // A quote without an end.
     (
         b"[{\"directory\":\"/\",\"file\":\"a.c\",\"command\":\"cc 'a\"}]",
@@ -163,11 +163,11 @@ const ORDER: [Row; 13] = [
 #[test]
 fn files_have_a_form(rt: HostRuntime) -> Result<(), Fail> {
     one_database();
-    for (file, number, place) in FORMS {
+    for row in FORMS {
         assert!(rt;
-            outcome(rt.alloc(), file)? == (number, place),
+            outcome(rt.alloc(), row.0)? == (row.1, row.2),
             "{}",
-            file.escape_ascii()
+            row.0.escape_ascii()
         );
     }
     Ok(())
@@ -175,11 +175,11 @@ fn files_have_a_form(rt: HostRuntime) -> Result<(), Fail> {
 
 #[test]
 fn entries_have_fields(rt: HostRuntime) -> Result<(), Fail> {
-    for (file, number, place) in FIELDS {
+    for row in FIELDS {
         assert!(rt;
-            outcome(rt.alloc(), file)? == (number, place),
+            outcome(rt.alloc(), row.0)? == (row.1, row.2),
             "{}",
-            file.escape_ascii()
+            row.0.escape_ascii()
         );
     }
     Ok(())
@@ -187,11 +187,11 @@ fn entries_have_fields(rt: HostRuntime) -> Result<(), Fail> {
 
 #[test]
 fn the_first_fault_is_told(rt: HostRuntime) -> Result<(), Fail> {
-    for (file, number, place) in ORDER {
+    for row in ORDER {
         assert!(rt;
-            outcome(rt.alloc(), file)? == (number, place),
+            outcome(rt.alloc(), row.0)? == (row.1, row.2),
             "{}",
-            file.escape_ascii()
+            row.0.escape_ascii()
         );
     }
     Ok(())
@@ -223,7 +223,7 @@ fn outcome_of_many(
 const ITEM: &[u8] = b"{\"directory\":\"/\",\"file\":\"a.c\",\"arguments\":[]}";
 
 /// So many items, the item, the end of the file, and what it comes to.
-const MANY: [(u32, &[u8], &[u8], u32, u32); 5] = [
+const MANY: &[(u32, &[u8], &[u8], u32, u32)] = &[
     (20_000, ITEM, b"]", 0, 20_000),
     (20_001, ITEM, b"]", 6, 0),
     (20_000, b"1", b"]", 3, 0),
@@ -234,26 +234,36 @@ const MANY: [(u32, &[u8], &[u8], u32, u32); 5] = [
 /// The limit is told behind the reading as JSON, and before any entry is looked at.
 #[test]
 fn entries_are_limited(rt: HostRuntime) -> Result<(), Fail> {
-    for (count, item, end, number, place) in MANY {
+    for row in MANY {
         assert!(rt;
-            outcome_of_many(rt.alloc(), count, item, end)? == (number, place),
-            "{count} items, {number}"
+            outcome_of_many(rt.alloc(), row.0, row.1, row.2)? == (row.3, row.4),
+            "{} items, {}",
+            row.0,
+            row.3
         );
     }
     Ok(())
 }
 
+/// Whether a fault has this number and this name.
+fn is_told(bad: BadDatabase, number: u32, name: &str) -> bool {
+    bad.number() == number && bad.name() == name
+}
+
+/// Faults, and the number and the name of each.
+const FAULTS: &[(BadDatabase, u32, &str)] = &[
+    (BadDatabase::NotJson, 1, "NotJson"),
+    (BadDatabase::NotArray, 2, "NotArray"),
+    (BadDatabase::NotObject(7), 3, "NotObject"),
+    (BadDatabase::Field(7), 4, "Field"),
+    (BadDatabase::OpenQuote(7), 5, "OpenQuote"),
+    (BadDatabase::TooMany, 6, "TooMany"),
+];
+
 #[test]
 fn faults_have_names(rt: HostRuntime) {
-    for (bad, number, name) in [
-        (BadDatabase::NotJson, 1, "NotJson"),
-        (BadDatabase::NotArray, 2, "NotArray"),
-        (BadDatabase::NotObject(7), 3, "NotObject"),
-        (BadDatabase::Field(7), 4, "Field"),
-        (BadDatabase::OpenQuote(7), 5, "OpenQuote"),
-        (BadDatabase::TooMany, 6, "TooMany"),
-    ] {
-        assert!(rt; bad.number() == number && bad.name() == name, "{name}");
+    for row in FAULTS {
+        assert!(rt; is_told(row.0, row.1, row.2), "{}", row.2);
     }
 }
 
@@ -302,7 +312,7 @@ fn splits_into(alloc: Global, command: &[u8], wanted: &[u8]) -> Result<bool, NoM
 }
 
 /// Commands, as they are written in JSON, and their words.
-const SPLIT: [(&[u8], &[u8]); 16] = [
+const SPLIT: &[(&[u8], &[u8])] = &[
     // Gaps: space, HT, LF and CR, and no others.
     (b"cc -c a.c", b"<cc><-c><a.c>"),
     (b"  cc \\t -c\\na.c\\r\\n", b"<cc><-c><a.c>"),
@@ -331,11 +341,11 @@ const SPLIT: [(&[u8], &[u8]); 16] = [
 #[test]
 fn commands_are_split(rt: HostRuntime) -> Result<(), Fail> {
     one_splitting();
-    for (command, words) in SPLIT {
+    for row in SPLIT {
         assert!(rt;
-            splits_into(rt.alloc(), command, words)?,
+            splits_into(rt.alloc(), row.0, row.1)?,
             "{}",
-            command.escape_ascii()
+            row.0.escape_ascii()
         );
     }
     Ok(())
@@ -390,7 +400,7 @@ const TWICE: &[u8] =
     b"[{\"file\":\"a.c\",\"directory\":\"/w\",\"arguments\":[\"cc\",\"\",\"-D\\u00e4 b\"]},{\"file\":\"a.c\",\"directory\":\"\",\"command\":\"cc -c a.c\"}]";
 
 /// Places, and the directory, the file and the words of the entry there.
-const TOLD: [(usize, Option<(&[u8], &[u8], &[u8])>); 3] = [
+const TOLD: &[(usize, Option<(&[u8], &[u8], &[u8])>)] = &[
     (0, Some((b"/w", b"a.c", b"<cc><><-D\xc3\xa4 b>"))),
     (1, Some((b"", b"a.c", b"<cc><-c><a.c>"))),
     (2, None),
@@ -398,8 +408,8 @@ const TOLD: [(usize, Option<(&[u8], &[u8], &[u8])>); 3] = [
 
 #[test]
 fn entries_stand_in_their_order(rt: HostRuntime) -> Result<(), Fail> {
-    for (place, wanted) in TOLD {
-        assert!(rt; tells(rt.alloc(), TWICE, place, wanted)?, "entry {place}");
+    for row in TOLD {
+        assert!(rt; tells(rt.alloc(), TWICE, row.0, row.1)?, "entry {}", row.0);
     }
     Ok(())
 }

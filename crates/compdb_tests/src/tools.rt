@@ -141,7 +141,7 @@ root /home/u/heat
 "#;
 
 /// Who wrote a database, the file, and what its entries make.
-const BUILDS: [(&str, &[u8], &[u8]); 4] = [
+const BUILDS: &[(&str, &[u8], &[u8])] = &[
     ("CMake with Ninja", CMAKE_NINJA, CMAKE_MADE),
     ("CMake with Make", CMAKE_MAKE, CMAKE_MADE),
     ("Meson", MESON, MESON_MADE),
@@ -150,8 +150,12 @@ const BUILDS: [(&str, &[u8], &[u8]); 4] = [
 
 #[test]
 fn databases_of_build_systems_are_read(rt: HostRuntime) -> Result<(), Fail> {
-    for (name, file, wanted) in BUILDS {
-        assert!(rt; make(rt.alloc(), file, b"/home/u/heat", wanted)?, "{name}");
+    for row in BUILDS {
+        assert!(rt;
+            make(rt.alloc(), row.1, b"/home/u/heat", row.2)?,
+            "{}",
+            row.0
+        );
     }
     Ok(())
 }
