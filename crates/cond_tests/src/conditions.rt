@@ -85,59 +85,93 @@ fn each_answers<R: Abort + Alloc<A = Global>>(
 
 #[test]
 fn values_are_those_of_the_standard(rt: HostRuntime) -> Result<(), Fail> {
-    each_answers(&rt, &HOLDS, Language::C, Ok(true))?;
-    each_answers(&rt, &FAILS, Language::C, Ok(false))?;
-    each_answers(&rt, &CXX_HOLDS, Language::Cxx, Ok(true))?;
+    each_answers(&rt, HOLDS, Language::C, Ok(true))?;
+    each_answers(&rt, FAILS, Language::C, Ok(false))?;
+    each_answers(&rt, CXX_HOLDS, Language::Cxx, Ok(true))?;
     Ok(())
 }
 
+/// Conditions, and the fault of them all.
+const REFUSED: &[(&[&str], BadCondition)] = &[
+    (MALFORMED, BadCondition::Malformed),
+    (ZERO_DIVISOR, BadCondition::ZeroDivisor),
+    (SHIFT, BadCondition::Shift),
+    (TOO_WIDE, BadCondition::TooWide),
+];
+
 #[test]
 fn faults_are_told(rt: HostRuntime) -> Result<(), Fail> {
-    let rows: [(&[&str], BadCondition); 4] = [
-        (&MALFORMED, BadCondition::Malformed),
-        (&ZERO_DIVISOR, BadCondition::ZeroDivisor),
-        (&SHIFT, BadCondition::Shift),
-        (&TOO_WIDE, BadCondition::TooWide),
-    ];
-    for (texts, fault) in rows {
-        each_answers(&rt, texts, Language::C, Err(fault))?;
+    for row in REFUSED {
+        each_answers(&rt, row.0, Language::C, Err(row.1))?;
     }
     Ok(())
 }
 
+/// Whether a fault has this number and this name.
+fn is_told(fault: BadCondition, number: u32, name: &str) -> bool {
+    fault.number() == number && fault.name() == name
+}
+
+/// Faults, and the number and the name of each.
+const FAULTS: &[(BadCondition, u32, &str)] = &[
+    (BadCondition::Malformed, 1, "Malformed"),
+    (BadCondition::ZeroDivisor, 2, "ZeroDivisor"),
+    (BadCondition::Shift, 3, "Shift"),
+    (BadCondition::TooWide, 4, "TooWide"),
+    (BadCondition::TooDeep, 5, "TooDeep"),
+];
+
 #[test]
 fn faults_have_names(rt: HostRuntime) -> Result<(), Fail> {
-    for (fault, number, name) in [
-        (BadCondition::Malformed, 1, "Malformed"),
-        (BadCondition::ZeroDivisor, 2, "ZeroDivisor"),
-        (BadCondition::Shift, 3, "Shift"),
-        (BadCondition::TooWide, 4, "TooWide"),
-        (BadCondition::TooDeep, 5, "TooDeep"),
-    ] {
-        assert!(rt; fault.number() == number && fault.name() == name, "{name}");
+    for row in FAULTS {
+        assert!(rt; is_told(row.0, row.1, row.2), "{}", row.2);
     }
     let text = format!(in rt.alloc(); "{}", BadCondition::ZeroDivisor)?;
     assert!(rt; text.as_str() == "a divisor is 0");
     Ok(())
 }
 
+/// A front, a middle, an end and an answer.
+type NestedRow = (
+    (&'static str, usize),
+    &'static str,
+    (&'static str, usize),
+    Result<bool, BadCondition>,
+);
+
+/// Whether the condition of a row has its answer.
+fn nests(alloc: Global, row: &NestedRow) -> Result<bool, NoMemory> {
+    Ok(nested(alloc, row.0, (row.1, 1), row.2)? == row.3)
+}
+
+/// What stands so many times at the front, once in the middle and so many times at the end of a condition, and the answer.
+const NESTED: &[NestedRow] = &[
+    (("(", 256), "1", (")", 256), Ok(true)),
+    (("(", 257), "1", (")", 257), Err(BadCondition::TooDeep)),
+    (
+        ("(", 257),
+        "18446744073709551616 )",
+        ("1 / 0", 1),
+        Err(BadCondition::TooDeep),
+    ),
+    (("(", 257), "1 1", (")", 257), Err(BadCondition::TooDeep)),
+    (
+        ("(", 257),
+        "1 << 64",
+        (")", 257),
+        Err(BadCondition::TooDeep),
+    ),
+    ((")", 1), "(", ("(", 256), Err(BadCondition::Malformed)),
+    (("0 ? 0 :", 256), "1", ("", 0), Ok(true)),
+    (("0 ? 0 :", 257), "1", ("", 0), Err(BadCondition::TooDeep)),
+    (("! ~ - +", 10000), "1", ("&& 1", 1), Ok(true)),
+];
+
 #[test]
 fn depth_is_limited(rt: HostRuntime) -> Result<(), Fail> {
     one_condition();
-    let too_deep = Err(BadCondition::TooDeep);
-    for (front, middle, end, expected) in [
-        (("(", 256), "1", (")", 256), Ok(true)),
-        (("(", 257), "1", (")", 257), too_deep),
-        (("(", 257), "18446744073709551616 )", ("1 / 0", 1), too_deep),
-        (("(", 257), "1 1", (")", 257), too_deep),
-        (("(", 257), "1 << 64", (")", 257), too_deep),
-        ((")", 1), "(", ("(", 256), Err(BadCondition::Malformed)),
-        (("0 ? 0 :", 256), "1", ("", 0), Ok(true)),
-        (("0 ? 0 :", 257), "1", ("", 0), too_deep),
-        (("! ~ - +", 10000), "1", ("&& 1", 1), Ok(true)),
-    ] {
-        let found = nested(rt.alloc(), front, (middle, 1), end)?;
-        assert!(rt; found == expected, "{middle}");
+    for row in NESTED {
+        assert!(rt; nests(rt.alloc(), row)?, "{}", row.1);
     }
     Ok(())
 }

@@ -2,7 +2,7 @@
 use cb_cond::BadCondition;
 
 /// Conditions of C that hold.
-pub(crate) const HOLDS: [&str; 139] = [
+pub(crate) const HOLDS: &[&str] = &[
     "1",
     "! 0",
     "- 1 > 0u",
@@ -145,7 +145,7 @@ pub(crate) const HOLDS: [&str; 139] = [
 ];
 
 /// Conditions of C that do not hold.
-pub(crate) const FAILS: [&str; 23] = [
+pub(crate) const FAILS: &[&str] = &[
     "0",
     "name",
     "true",
@@ -172,7 +172,7 @@ pub(crate) const FAILS: [&str; 23] = [
 ];
 
 /// Conditions of C++ that hold.
-pub(crate) const CXX_HOLDS: [&str; 15] = [
+pub(crate) const CXX_HOLDS: &[&str] = &[
     "true",
     "not 0",
     "1 and 1",
@@ -191,7 +191,7 @@ pub(crate) const CXX_HOLDS: [&str; 15] = [
 ];
 
 /// What is no conditional expression.
-pub(crate) const MALFORMED: [&str; 69] = [
+pub(crate) const MALFORMED: &[&str] = &[
     "(",
     ")",
     "( )",
@@ -264,7 +264,7 @@ pub(crate) const MALFORMED: [&str; 69] = [
 ];
 
 /// Conditions in which a divisor is 0.
-pub(crate) const ZERO_DIVISOR: [&str; 15] = [
+pub(crate) const ZERO_DIVISOR: &[&str] = &[
     "1 / 0",
     "1 % 0",
     "1 / 0u",
@@ -283,7 +283,7 @@ pub(crate) const ZERO_DIVISOR: [&str; 15] = [
 ];
 
 /// Conditions with a shift by too much, or by a negative number.
-pub(crate) const SHIFT: [&str; 9] = [
+pub(crate) const SHIFT: &[&str] = &[
     "1 << 64",
     "1 >> 64",
     "1 << - 1",
@@ -296,7 +296,7 @@ pub(crate) const SHIFT: [&str; 9] = [
 ];
 
 /// Conditions with an integer of 2^64 or more.
-pub(crate) const TOO_WIDE: [&str; 11] = [
+pub(crate) const TOO_WIDE: &[&str] = &[
     "18446744073709551616",
     "0x10000000000000000",
     "02000000000000000000000",
