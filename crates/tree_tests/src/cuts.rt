@@ -58,47 +58,49 @@ fn is_cut(alloc: Global, source: &[u8], expected: &[u8]) -> Result<bool, LexFaul
     Ok(text.as_slice() == expected)
 }
 
+/// Sources, and how each is cut.
+const CUTS: &[(&[u8], &[u8])] = &[
+    (
+        b"a+++b 1.5e+3 0x1p-2 L\"s\" <: %:%: 'x",
+        b"Ia|P++|P+|Ib|~N1.5e+3|~N0x1p-2|~SL\"s\"|~P<:|~P%:%:|~O'x|11.",
+    ),
+    (
+        b"int a; /* x\ny\nz */ int b;",
+        b"Iint|~Ia|P;|~Iint|~Ib|P;|1133.",
+    ),
+    (b"\"// no\" x // yes\n/**/y\n", b"S\"// no\"|~Ix|11.Iy|22."),
+    (
+        b"<::... ..%:%->=<<=@\\",
+        b"P<:|P:|P...|~P.|P.|P%:|P%|P->|P=|P<<=|O@|O\\|11.",
+    ),
+    (
+        b"u8\"x\" u8'x' L'a' U\"b\" L'a",
+        b"Su8\"x\"|~Iu8|C'x'|~CL'a'|~SU\"b\"|~IL|O'a|11.",
+    ),
+    (
+        b"1'000'x' 0b1' .5.e-1+ ''",
+        b"N1'000'x|C' 0b1'|~N.5.e-1|P+|~C''|11.",
+    ),
+    (
+        b"'\\'' \"a\\\\\" '\\\n'\nb",
+        b"C'\\''|~S\"a\\\\\"|~C''|12.Ib|33.",
+    ),
+    (b"ab\\\ncd 1\\\r\n.e\\\n+5", b"Iabcd|~N1.e+5|14."),
+    (b"\"x\\\ny\" <\\\n<= 'a\\\nb", b"S\"xy\"|~P<<=|~O'ab|14."),
+    (b"/\\\n* c *\\\n/ d /\\\n/ e", b"Id|33."),
+    (b"a /* /* */ b */", b"Ia|~Ib|~P*|P/|11."),
+    (b"\n \t\x0b\x0c\r\nx", b"..Ix|33."),
+    (b"\xc3\xa9$_1 L U8\"\"", b"I\xc3\xa9$_1|~IL|~IU8|S\"\"|11."),
+    (b"a/ *b/=//", b"Ia|P/|~P*|Ib|P/=|11."),
+    (b"", b""),
+    (b"a\\", b"Ia|O\\|11."),
+];
+
 /// The first source that is cut in another way.
 fn wrong_cut(alloc: Global) -> Result<Option<&'static [u8]>, LexFault> {
-    let rows: [(&[u8], &[u8]); 16] = [
-        (
-            b"a+++b 1.5e+3 0x1p-2 L\"s\" <: %:%: 'x",
-            b"Ia|P++|P+|Ib|~N1.5e+3|~N0x1p-2|~SL\"s\"|~P<:|~P%:%:|~O'x|11.",
-        ),
-        (
-            b"int a; /* x\ny\nz */ int b;",
-            b"Iint|~Ia|P;|~Iint|~Ib|P;|1133.",
-        ),
-        (b"\"// no\" x // yes\n/**/y\n", b"S\"// no\"|~Ix|11.Iy|22."),
-        (
-            b"<::... ..%:%->=<<=@\\",
-            b"P<:|P:|P...|~P.|P.|P%:|P%|P->|P=|P<<=|O@|O\\|11.",
-        ),
-        (
-            b"u8\"x\" u8'x' L'a' U\"b\" L'a",
-            b"Su8\"x\"|~Iu8|C'x'|~CL'a'|~SU\"b\"|~IL|O'a|11.",
-        ),
-        (
-            b"1'000'x' 0b1' .5.e-1+ ''",
-            b"N1'000'x|C' 0b1'|~N.5.e-1|P+|~C''|11.",
-        ),
-        (
-            b"'\\'' \"a\\\\\" '\\\n'\nb",
-            b"C'\\''|~S\"a\\\\\"|~C''|12.Ib|33.",
-        ),
-        (b"ab\\\ncd 1\\\r\n.e\\\n+5", b"Iabcd|~N1.e+5|14."),
-        (b"\"x\\\ny\" <\\\n<= 'a\\\nb", b"S\"xy\"|~P<<=|~O'ab|14."),
-        (b"/\\\n* c *\\\n/ d /\\\n/ e", b"Id|33."),
-        (b"a /* /* */ b */", b"Ia|~Ib|~P*|P/|11."),
-        (b"\n \t\x0b\x0c\r\nx", b"..Ix|33."),
-        (b"\xc3\xa9$_1 L U8\"\"", b"I\xc3\xa9$_1|~IL|~IU8|S\"\"|11."),
-        (b"a/ *b/=//", b"Ia|P/|~P*|Ib|P/=|11."),
-        (b"", b""),
-        (b"a\\", b"Ia|O\\|11."),
-    ];
-    for (source, expected) in rows {
-        if !is_cut(alloc, source, expected)? {
-            return Ok(Some(source));
+    for row in CUTS {
+        if !is_cut(alloc, row.0, row.1)? {
+            return Ok(Some(row.0));
         }
     }
     Ok(None)
@@ -119,19 +121,21 @@ fn open_comment(alloc: Global, source: &[u8]) -> Option<u32> {
     }
 }
 
+/// Sources, and the line of the comment of each that has no end.
+const COMMENTS: &[(&[u8], Option<u32>)] = &[
+    (b"/* x", Some(1)),
+    (b"a\n\"/*\" /*/\n", Some(2)),
+    (b"// /*\n/\\\n* x", Some(2)),
+    (b"/**/ /* /* * /", Some(1)),
+    (b"'/*\n", None),
+    (b"/*/ */", None),
+];
+
 /// The first source with another open comment.
 fn wrong_comment(alloc: Global) -> Option<&'static [u8]> {
-    let rows: [(&[u8], Option<u32>); 6] = [
-        (b"/* x", Some(1)),
-        (b"a\n\"/*\" /*/\n", Some(2)),
-        (b"// /*\n/\\\n* x", Some(2)),
-        (b"/**/ /* /* * /", Some(1)),
-        (b"'/*\n", None),
-        (b"/*/ */", None),
-    ];
-    for (source, line) in rows {
-        if open_comment(alloc, source) != line {
-            return Some(source);
+    for row in COMMENTS {
+        if open_comment(alloc, row.0) != row.1 {
+            return Some(row.0);
         }
     }
     None

@@ -21,40 +21,42 @@ fn has_fault(alloc: Global, source: &[u8], expected: &[u8]) -> Result<bool, Buil
     Ok(text.as_slice() == expected)
 }
 
+/// Sources, and the text of the fault of each.
+const FAULTS: &[(&[u8], &[u8])] = &[
+    (
+        b"#if A\nx;\n#else\ny;\n#else\n#endif\n",
+        b"bad source 5 AfterElse line 5",
+    ),
+    (
+        b"#if A\n#else\n#elif B\n#endif",
+        b"bad source 5 AfterElse line 3",
+    ),
+    (b"a\n\n#elif B\n", b"bad source 2 StrayElif line 3"),
+    (b"# /* c */ else\n", b"bad source 3 StrayElse line 1"),
+    (
+        b"#if A\n#endif\n%: endif\n",
+        b"bad source 4 StrayEndif line 3",
+    ),
+    (
+        b"#if A\n#ifdef B\n#endif\n#\\\nifndef C\n",
+        b"bad source 6 OpenIf line 4",
+    ),
+    (
+        b"#endif\n\"/*\" // /*\n/* a\n",
+        b"bad source 1 OpenComment line 3",
+    ),
+    (
+        b"\n\n\n\n\n\n\n\n\n\n\n#endif\n",
+        b"bad source 4 StrayEndif line 12",
+    ),
+    (b"#if A\n#else\n#endif\n", b""),
+];
+
 /// The first source with another fault.
 fn wrong_fault(alloc: Global) -> Result<Option<&'static [u8]>, BuildFault> {
-    let rows: [(&[u8], &[u8]); 9] = [
-        (
-            b"#if A\nx;\n#else\ny;\n#else\n#endif\n",
-            b"bad source 5 AfterElse line 5",
-        ),
-        (
-            b"#if A\n#else\n#elif B\n#endif",
-            b"bad source 5 AfterElse line 3",
-        ),
-        (b"a\n\n#elif B\n", b"bad source 2 StrayElif line 3"),
-        (b"# /* c */ else\n", b"bad source 3 StrayElse line 1"),
-        (
-            b"#if A\n#endif\n%: endif\n",
-            b"bad source 4 StrayEndif line 3",
-        ),
-        (
-            b"#if A\n#ifdef B\n#endif\n#\\\nifndef C\n",
-            b"bad source 6 OpenIf line 4",
-        ),
-        (
-            b"#endif\n\"/*\" // /*\n/* a\n",
-            b"bad source 1 OpenComment line 3",
-        ),
-        (
-            b"\n\n\n\n\n\n\n\n\n\n\n#endif\n",
-            b"bad source 4 StrayEndif line 12",
-        ),
-        (b"#if A\n#else\n#endif\n", b""),
-    ];
-    for (source, expected) in rows {
-        if !has_fault(alloc, source, expected)? {
-            return Ok(Some(source));
+    for row in FAULTS {
+        if !has_fault(alloc, row.0, row.1)? {
+            return Ok(Some(row.0));
         }
     }
     Ok(None)
@@ -104,6 +106,14 @@ fn fault_of_repeated(
     Ok(fault_of(alloc, source.as_slice()))
 }
 
+/// A byte, how many copies of it stand before an `a`, and the line of the fault.
+const LIMITS: &[(u8, u32, Option<u32>)] = &[
+    (b'\n', 199_999, None),
+    (b'\n', 200_000, Some(200_001)),
+    (b' ', 4_194_303, None),
+    (b' ', 4_194_304, Some(0)),
+];
+
 /// The first of the rows at which a limit is not held.
 fn wrong_limit(alloc: Global) -> Result<Option<u32>, BuildFault> {
     let too_deep = Some(BadSource {
@@ -113,19 +123,13 @@ fn wrong_limit(alloc: Global) -> Result<Option<u32>, BuildFault> {
     if fault_of_nested(alloc, 256)? != None || fault_of_nested(alloc, 257)? != too_deep {
         return Ok(Some(257));
     }
-    let rows = [
-        (b'\n', 199_999, None),
-        (b'\n', 200_000, Some(200_001)),
-        (b' ', 4_194_303, None),
-        (b' ', 4_194_304, Some(0)),
-    ];
-    for (byte, count, line) in rows {
-        let fault = line.map(|line| BadSource {
+    for row in LIMITS {
+        let fault = row.2.map(|line| BadSource {
             kind: SourceKind::TooLarge,
             line,
         });
-        if fault_of_repeated(alloc, byte, count as usize)? != fault {
-            return Ok(Some(count));
+        if fault_of_repeated(alloc, row.0, row.1 as usize)? != fault {
+            return Ok(Some(row.1));
         }
     }
     Ok(None)

@@ -9,39 +9,41 @@ use std::test::Fail;
 
 fn is_shared<T: Send + Sync>() {}
 
+/// Bytes, the token that they are as a source of their own, and the one that they are as they stand.
+const KINDS: &[(&[u8], Option<TokenKind>, Option<TokenKind>)] = &[
+    (b"a\\\nb1", Some(TokenKind::Identifier), None),
+    (
+        b"u8",
+        Some(TokenKind::Identifier),
+        Some(TokenKind::Identifier),
+    ),
+    (b".5e\\\r\n+1", Some(TokenKind::Number), None),
+    (b".5e+1", Some(TokenKind::Number), Some(TokenKind::Number)),
+    (b"1'0", Some(TokenKind::Number), Some(TokenKind::Number)),
+    (b"L'\\'\\\n'", Some(TokenKind::Char), None),
+    (b"L'\\''", Some(TokenKind::Char), Some(TokenKind::Char)),
+    (b"u8\"\\\\\"", Some(TokenKind::Str), Some(TokenKind::Str)),
+    (b"U\"x\"", Some(TokenKind::Str), Some(TokenKind::Str)),
+    (b"%:\\\n%:", Some(TokenKind::Punct), None),
+    (b"...", Some(TokenKind::Punct), Some(TokenKind::Punct)),
+    (b"/=", Some(TokenKind::Punct), Some(TokenKind::Punct)),
+    (b"'a\\", Some(TokenKind::Other), Some(TokenKind::Other)),
+    (b"@", Some(TokenKind::Other), Some(TokenKind::Other)),
+    (b"", None, None),
+    (b"a\n", None, None),
+    (b"a b", None, None),
+    (b"u8'x'", None, None),
+    (b"//", None, None),
+    (b"/*", None, None),
+    (b" ", None, None),
+    (b"1'", None, None),
+];
+
 /// The first bytes that are another token, or another as a source of their own.
 fn wrong_kind() -> Option<&'static [u8]> {
-    let rows: [(&[u8], Option<TokenKind>, Option<TokenKind>); 22] = [
-        (b"a\\\nb1", Some(TokenKind::Identifier), None),
-        (
-            b"u8",
-            Some(TokenKind::Identifier),
-            Some(TokenKind::Identifier),
-        ),
-        (b".5e\\\r\n+1", Some(TokenKind::Number), None),
-        (b".5e+1", Some(TokenKind::Number), Some(TokenKind::Number)),
-        (b"1'0", Some(TokenKind::Number), Some(TokenKind::Number)),
-        (b"L'\\'\\\n'", Some(TokenKind::Char), None),
-        (b"L'\\''", Some(TokenKind::Char), Some(TokenKind::Char)),
-        (b"u8\"\\\\\"", Some(TokenKind::Str), Some(TokenKind::Str)),
-        (b"U\"x\"", Some(TokenKind::Str), Some(TokenKind::Str)),
-        (b"%:\\\n%:", Some(TokenKind::Punct), None),
-        (b"...", Some(TokenKind::Punct), Some(TokenKind::Punct)),
-        (b"/=", Some(TokenKind::Punct), Some(TokenKind::Punct)),
-        (b"'a\\", Some(TokenKind::Other), Some(TokenKind::Other)),
-        (b"@", Some(TokenKind::Other), Some(TokenKind::Other)),
-        (b"", None, None),
-        (b"a\n", None, None),
-        (b"a b", None, None),
-        (b"u8'x'", None, None),
-        (b"//", None, None),
-        (b"/*", None, None),
-        (b" ", None, None),
-        (b"1'", None, None),
-    ];
-    for (bytes, as_source, as_they_stand) in rows {
-        if one_token(bytes) != as_source || token_kind(bytes) != as_they_stand {
-            return Some(bytes);
+    for row in KINDS {
+        if one_token(row.0) != row.1 || token_kind(row.0) != row.2 {
+            return Some(row.0);
         }
     }
     None
@@ -53,28 +55,30 @@ fn bytes_are_one_token(rt: HostRuntime) {
     assert_eq!(rt; wrong_kind(), None);
 }
 
+/// Bytes, and the piece at the front of each.
+const FIRSTS: &[(&[u8], First)] = &[
+    (
+        b"/*a*/b",
+        First::Piece {
+            kind: PieceKind::Comment,
+            len: 5,
+        },
+    ),
+    (
+        b"\n\n",
+        First::Piece {
+            kind: PieceKind::LineEnd,
+            len: 1,
+        },
+    ),
+    (b"/*/", First::OpenComment),
+];
+
 /// The first bytes at whose front another piece stands.
 fn wrong_first() -> Option<&'static [u8]> {
-    let rows: [(&[u8], First); 3] = [
-        (
-            b"/*a*/b",
-            First::Piece {
-                kind: PieceKind::Comment,
-                len: 5,
-            },
-        ),
-        (
-            b"\n\n",
-            First::Piece {
-                kind: PieceKind::LineEnd,
-                len: 1,
-            },
-        ),
-        (b"/*/", First::OpenComment),
-    ];
-    for (bytes, first) in rows {
-        if first_piece(bytes) != first {
-            return Some(bytes);
+    for row in FIRSTS {
+        if first_piece(row.0) != row.1 {
+            return Some(row.0);
         }
     }
     None
@@ -85,25 +89,27 @@ fn a_piece_stands_first(rt: HostRuntime) {
     assert_eq!(rt; wrong_first(), None);
 }
 
+/// Bytes, the length of the white space at their front, and how long their stretch is and how far it is seen.
+const STRETCHES: &[(&[u8], usize, usize, usize)] = &[
+    (b"a + b;\nc", 0, 6, 6),
+    (b"print(a, \"b c\");\n", 0, 16, 16),
+    (b"print(\"b c\" / 'd');\n", 0, 19, 19),
+    (b"a L'b'\n", 0, 6, 6),
+    (b"a(L'b')\n", 0, 7, 7),
+    (b"a + b[c", 0, 6, 7),
+    (b"a = 1'000 + \"b // c\" + d; // e\n", 0, 26, 26),
+    (b"a \"b\n", 0, 4, 4),
+    (b"a /* b */\n", 0, 2, 2),
+    (b"a b", 0, 2, 3),
+    (b" \ta\n", 2, 0, 3),
+];
+
 /// The first bytes with another stretch.
 fn wrong_stretch() -> Option<&'static [u8]> {
-    let rows: [(&[u8], usize, usize, usize); 11] = [
-        (b"a + b;\nc", 0, 6, 6),
-        (b"print(a, \"b c\");\n", 0, 16, 16),
-        (b"print(\"b c\" / 'd');\n", 0, 19, 19),
-        (b"a L'b'\n", 0, 6, 6),
-        (b"a(L'b')\n", 0, 7, 7),
-        (b"a + b[c", 0, 6, 7),
-        (b"a = 1'000 + \"b // c\" + d; // e\n", 0, 26, 26),
-        (b"a \"b\n", 0, 4, 4),
-        (b"a /* b */\n", 0, 2, 2),
-        (b"a b", 0, 2, 3),
-        (b" \ta\n", 2, 0, 3),
-    ];
-    for (bytes, white, len, seen) in rows {
-        let stretch = plain_stretch(bytes, bytes.len());
-        if white_front(bytes) != white || stretch.len != len || stretch.seen != seen {
-            return Some(bytes);
+    for row in STRETCHES {
+        let stretch = plain_stretch(row.0, row.0.len());
+        if white_front(row.0) != row.1 || stretch.len != row.2 || stretch.seen != row.3 {
+            return Some(row.0);
         }
     }
     None

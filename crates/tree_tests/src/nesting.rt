@@ -49,27 +49,29 @@ fn is_nested(alloc: Global, source: &[u8], expected: &[u8]) -> Result<bool, Buil
     Ok(text.as_slice() == expected)
 }
 
+/// Sources, and how the nodes of each nest.
+const NESTINGS: &[(&[u8], &[u8])] = &[
+    (b"", b""),
+    (b"a\n#define A\nb", b"123"),
+    (
+        b"a\n#if A\nb\n#elif B\n#else\nc\n#endif\nd",
+        b"1[23|4|56|7]8",
+    ),
+    (
+        b"#if A\n#ifdef B\n#endif\n#ifndef C\nx\n#endif\n#endif",
+        b"[1[2|3][45|6]|7]",
+    ),
+    (
+        b"#if A\n#if B\n#else\n#endif\n#endif\n#if C\n#endif",
+        b"[1[2|3|4]|5][6|7]",
+    ),
+];
+
 /// The first source whose nodes nest in another way.
 fn wrong_nesting(alloc: Global) -> Result<Option<&'static [u8]>, BuildFault> {
-    let rows: [(&[u8], &[u8]); 5] = [
-        (b"", b""),
-        (b"a\n#define A\nb", b"123"),
-        (
-            b"a\n#if A\nb\n#elif B\n#else\nc\n#endif\nd",
-            b"1[23|4|56|7]8",
-        ),
-        (
-            b"#if A\n#ifdef B\n#endif\n#ifndef C\nx\n#endif\n#endif",
-            b"[1[2|3][45|6]|7]",
-        ),
-        (
-            b"#if A\n#if B\n#else\n#endif\n#endif\n#if C\n#endif",
-            b"[1[2|3|4]|5][6|7]",
-        ),
-    ];
-    for (source, expected) in rows {
-        if !is_nested(alloc, source, expected)? {
-            return Ok(Some(source));
+    for row in NESTINGS {
+        if !is_nested(alloc, row.0, row.1)? {
+            return Ok(Some(row.0));
         }
     }
     Ok(None)

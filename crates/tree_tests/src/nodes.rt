@@ -59,32 +59,34 @@ fn has_nodes(alloc: Global, source: &[u8], expected: &[u8]) -> Result<bool, Buil
     Ok(text.as_slice() == expected)
 }
 
+/// Sources, and the nodes of each.
+const NODES: &[(&[u8], &[u8])] = &[
+    (b"", b""),
+    (
+        b"int a;\n\nint b; /*\n#if */ c;\n%:if A\n#pragma once x\n#pragma twice\n#\n## b\r\n # /*c*/ else\n#endif",
+        b"T1134.I55|A.O66|once|x.X77|twice.X88.T99.E00.Z11.",
+    ),
+    (
+        b"%\\\n:if A\\\r\nB\r\nx\\\r\ny\r\n%:endif\r\n",
+        b"I13|AB.T45.Z66.",
+    ),
+    (
+        b"# define A(x) x##1 // c\n#undef A\n#error \"e\" '\n#ifndef B\n#elif C\n#ifdef D\n#endif\n#endif\n",
+        b"F11|A|(|x|)|x|##|1.U22|A.R33|\"e\"|'.N44|B.L55|C.D66|D.Z77.Z88.",
+    ),
+    (b"#include <a.h>\r\n", b"C11|<|a|.|h|>."),
+    (b"a\n\n/* b */\nc\n", b"T1144."),
+    (b"a #if\n%:%: b\n", b"T12."),
+    (b"#elifdef A\n", b"X11|A."),
+    (b"#1 2\n#'\n# \"s\"", b"X11|1|2.X22|'.X33|\"s\"."),
+    (b"#/* c\n*/define A /*\n*/ 1\n\n\nx", b"F13|A|1.T66."),
+];
+
 /// The first source that has other nodes.
 fn wrong_nodes(alloc: Global) -> Result<Option<&'static [u8]>, BuildFault> {
-    let rows: [(&[u8], &[u8]); 10] = [
-        (b"", b""),
-        (
-            b"int a;\n\nint b; /*\n#if */ c;\n%:if A\n#pragma once x\n#pragma twice\n#\n## b\r\n # /*c*/ else\n#endif",
-            b"T1134.I55|A.O66|once|x.X77|twice.X88.T99.E00.Z11.",
-        ),
-        (
-            b"%\\\n:if A\\\r\nB\r\nx\\\r\ny\r\n%:endif\r\n",
-            b"I13|AB.T45.Z66.",
-        ),
-        (
-            b"# define A(x) x##1 // c\n#undef A\n#error \"e\" '\n#ifndef B\n#elif C\n#ifdef D\n#endif\n#endif\n",
-            b"F11|A|(|x|)|x|##|1.U22|A.R33|\"e\"|'.N44|B.L55|C.D66|D.Z77.Z88.",
-        ),
-        (b"#include <a.h>\r\n", b"C11|<|a|.|h|>."),
-        (b"a\n\n/* b */\nc\n", b"T1144."),
-        (b"a #if\n%:%: b\n", b"T12."),
-        (b"#elifdef A\n", b"X11|A."),
-        (b"#1 2\n#'\n# \"s\"", b"X11|1|2.X22|'.X33|\"s\"."),
-        (b"#/* c\n*/define A /*\n*/ 1\n\n\nx", b"F13|A|1.T66."),
-    ];
-    for (source, expected) in rows {
-        if !has_nodes(alloc, source, expected)? {
-            return Ok(Some(source));
+    for row in NODES {
+        if !has_nodes(alloc, row.0, row.1)? {
+            return Ok(Some(row.0));
         }
     }
     Ok(None)
