@@ -33,34 +33,44 @@ fn joined(alloc: Global, places: &[u32], place: u32) -> Result<(bool, bool), NoM
     Ok((arena.has(both, place), arena.has(either, place)))
 }
 
+/// The places of a set, a place, and whether the set has it.
+const PLACES: &[([u32; 3], u32, bool)] = &[
+    ([0, 1, 2], 0, true),
+    ([0, 1, 2], 2, true),
+    ([0, 1, 2], 3, false),
+    ([7, 7, 4_294_967_295], 4_294_967_295, true),
+    ([7, 7, 4_294_967_295], 4_294_967_294, false),
+    ([6, 5, 13], 0, false),
+];
+
 #[test]
 fn sets_have_their_places(rt: HostRuntime) -> Result<(), Fail> {
-    for (places, place, expected) in [
-        ([0, 1, 2], 0, true),
-        ([0, 1, 2], 2, true),
-        ([0, 1, 2], 3, false),
-        ([7, 7, 4_294_967_295], 4_294_967_295, true),
-        ([7, 7, 4_294_967_295], 4_294_967_294, false),
-        ([6, 5, 13], 0, false),
-    ] {
+    for row in PLACES {
         assert!(rt;
-            has(rt.alloc(), places.as_slice(), place)? == expected,
-            "at {place}"
+            has(rt.alloc(), row.0.as_slice(), row.1)? == row.2,
+            "at {}",
+            row.1
         );
     }
     Ok(())
 }
 
+/// The places of a set, one more place, and whether the common part of the set and the set with it has it.
+const JOINED: &[([u32; 3], u32, bool)] = &[
+    ([1, 2, 3], 4, false),
+    ([1, 2, 3], 3, true),
+    ([0, 9, 65_535], 0, true),
+    ([0, 9, 65_535], 65_534, false),
+];
+
 #[test]
 fn common_parts_and_unions(rt: HostRuntime) -> Result<(), Fail> {
-    for (places, place, in_both) in [
-        ([1, 2, 3], 4, false),
-        ([1, 2, 3], 3, true),
-        ([0, 9, 65_535], 0, true),
-        ([0, 9, 65_535], 65_534, false),
-    ] {
-        let made = joined(rt.alloc(), places.as_slice(), place)?;
-        assert!(rt; made.0 == in_both && made.1, "at {place}");
+    for row in JOINED {
+        assert!(rt;
+            joined(rt.alloc(), row.0.as_slice(), row.1)? == (row.2, true),
+            "at {}",
+            row.1
+        );
     }
     Ok(())
 }

@@ -153,33 +153,38 @@ fn puts(alloc: Global, parts: &str, arguments: &str, expected: &str) -> Result<b
     Ok(text.as_slice() == expected.as_bytes())
 }
 
+/// The parts of a body, the arguments of a call, and what it puts in.
+const ROWS: &[(&str, &str, &str)] = &[
+    ("x| y", "", "x| y"),
+    ("$0|$1", "N; a| b", "2|a| b"),
+    ("#0", " a| \"q\"", "\"a \\\"q\\\"\""),
+    ("#0", "'\"'|'\\0'|\\n", "\"'\\\"''\\\\0'\\n\""),
+    ("#0", "", "\"\""),
+    ("#0|x", "N", "\"N\"|x"),
+    ("$0|+$1", "+;/", "+|/"),
+    ("$0|+$1", "+; +", "++"),
+    ("$0|+$1", ";", ""),
+    ("$0|+$1", ";b", "b"),
+    ("x| $0|+$1|y", ";a| b", "x| a| b|y"),
+    ("x| $0|+ $1|y", ";", "x|y"),
+    ("$0|+x| $0", "N", "Nx| 2"),
+    ("a|+##|b", "", "a|##|b"),
+    ("x|+ #0", "a", "x|\"a\""),
+    ("L|+#0", "a", "L\"a\""),
+    ("a|+b|+1|+c|+.", "", "ab1c|."),
+    ("1|+e|++|+5|+_", "", "1e+5_"),
+    ("a|+-|+>|+b", "", "a|->|b"),
+    ("$0|+$1|+$2", "x;;y", "xy"),
+];
+
 #[test]
 fn rows(rt: HostRuntime) -> Result<(), Fail> {
-    for (parts, arguments, expected) in [
-        ("x| y", "", "x| y"),
-        ("$0|$1", "N; a| b", "2|a| b"),
-        ("#0", " a| \"q\"", "\"a \\\"q\\\"\""),
-        ("#0", "'\"'|'\\0'|\\n", "\"'\\\"''\\\\0'\\n\""),
-        ("#0", "", "\"\""),
-        ("#0|x", "N", "\"N\"|x"),
-        ("$0|+$1", "+;/", "+|/"),
-        ("$0|+$1", "+; +", "++"),
-        ("$0|+$1", ";", ""),
-        ("$0|+$1", ";b", "b"),
-        ("x| $0|+$1|y", ";a| b", "x| a| b|y"),
-        ("x| $0|+ $1|y", ";", "x|y"),
-        ("$0|+x| $0", "N", "Nx| 2"),
-        ("a|+##|b", "", "a|##|b"),
-        ("x|+ #0", "a", "x|\"a\""),
-        ("L|+#0", "a", "L\"a\""),
-        ("a|+b|+1|+c|+.", "", "ab1c|."),
-        ("1|+e|++|+5|+_", "", "1e+5_"),
-        ("a|+-|+>|+b", "", "a|->|b"),
-        ("$0|+$1|+$2", "x;;y", "xy"),
-    ] {
+    for row in ROWS {
         assert!(rt;
-            puts(rt.alloc(), parts, arguments, expected)?,
-            "at {parts} of {arguments}"
+            puts(rt.alloc(), row.0, row.1, row.2)?,
+            "at {} of {}",
+            row.0,
+            row.1
         );
     }
     Ok(())
@@ -194,20 +199,25 @@ fn has_room(alloc: Global, parts: &str, arguments: &str, room: usize) -> Result<
     }
 }
 
+/// The parts of a body, the arguments of a call, how many tokens there is room for, and whether that is enough.
+const ROOMS: &[(&str, &str, usize, bool)] = &[
+    ("x|y", "", 2, true),
+    ("x|y", "", 1, false),
+    ("a|+b", "", 1, true),
+    ("a|++", "", 1, false),
+    ("$0|+$1", ";", 0, true),
+    ("$0|$0", "a|b", 3, false),
+    ("$0|$0", "a|b", 4, true),
+];
+
 #[test]
 fn rooms(rt: HostRuntime) -> Result<(), Fail> {
-    for (parts, arguments, room, expected) in [
-        ("x|y", "", 2, true),
-        ("x|y", "", 1, false),
-        ("a|+b", "", 1, true),
-        ("a|++", "", 1, false),
-        ("$0|+$1", ";", 0, true),
-        ("$0|$0", "a|b", 3, false),
-        ("$0|$0", "a|b", 4, true),
-    ] {
+    for row in ROOMS {
         assert!(rt;
-            has_room(rt.alloc(), parts, arguments, room)? == expected,
-            "at {parts}, room {room}"
+            has_room(rt.alloc(), row.0, row.1, row.2)? == row.3,
+            "at {}, room {}",
+            row.0,
+            row.2
         );
     }
     Ok(())
