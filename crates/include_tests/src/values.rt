@@ -55,7 +55,7 @@ fn command(
     })
 }
 
-const COMMANDS: [(Language, &[&[u8]], &[u8]); 7] = [
+const COMMANDS: &[(Language, &[&[u8]], &[u8])] = &[
     (Language::C, &[], b"/"),
     (Language::Cxx, &[], b"/"),
     (Language::C, &[b"A"], b"/"),
@@ -69,8 +69,8 @@ const COMMANDS: [(Language, &[&[u8]], &[u8]); 7] = [
 fn distinct(alloc: Global) -> Result<IndexSet<Command>, PathFault> {
     let mut commands = IndexSet::new(alloc);
     for i in 0..2 * COMMANDS.len() {
-        let (language, words, work) = COMMANDS[i % COMMANDS.len()];
-        match commands.insert(command(alloc, language, words, work)?) {
+        let row = &COMMANDS[i % COMMANDS.len()];
+        match commands.insert(command(alloc, row.0, row.1, row.2)?) {
             Ok(_is_new) => {}
             Err(_refused) => return Err(PathFault::NoMemory),
         }
