@@ -339,23 +339,28 @@ fn shown(alloc: Global, text: &str) -> Result<Bytes, NoMemory> {
     Bytes::from_vec(alloc, out)
 }
 
+/// Whether an analysis says this of its platforms and its root.
+fn shows(alloc: Global, text: &str, wanted: &str) -> Result<bool, NoMemory> {
+    Ok(shown(alloc, text)?.as_slice() == wanted.as_bytes())
+}
+
+/// Files, and what each says of its platforms and its root.
+const READ: &[(&str, &str)] = &[
+    (
+        "platform.b.commands = 'x//./y.json'\nplatform.a.commands = 'a/../b'\nplatform.B.commands = 'c'\n",
+        "B=c;a=b;b=x/y.json;none",
+    ),
+    (
+        "codebase = {root = '/src'}\n[platform.'two words']\ncommands = 'a'\n",
+        "two words=a;/src",
+    ),
+    ("platform.a.commands = 'a'\ncodebase.root = ''\n", "a=a;"),
+];
+
 #[test]
 fn platforms_and_roots_are_read(rt: HostRuntime) -> Result<(), Fail> {
-    for (text, wanted) in [
-        (
-            "platform.b.commands = 'x//./y.json'\nplatform.a.commands = 'a/../b'\nplatform.B.commands = 'c'\n",
-            "B=c;a=b;b=x/y.json;none",
-        ),
-        (
-            "codebase = {root = '/src'}\n[platform.'two words']\ncommands = 'a'\n",
-            "two words=a;/src",
-        ),
-        ("platform.a.commands = 'a'\ncodebase.root = ''\n", "a=a;"),
-    ] {
-        assert!(rt;
-            shown(rt.alloc(), text)?.as_slice() == wanted.as_bytes(),
-            "{text}"
-        );
+    for row in READ {
+        assert!(rt; shows(rt.alloc(), row.0, row.1)?, "{}", row.0);
     }
     Ok(())
 }
@@ -368,33 +373,44 @@ fn prints(alloc: Global, text: &str, wanted: &str) -> Result<bool, AllocError> {
     }
 }
 
+/// Whether a kind has this number and this name.
+fn is_told(kind: AnalysisKind, number: u32, name: &str) -> bool {
+    kind.number() == number && kind.name() == name
+}
+
+/// Kinds, and the number and the name of each.
+const KINDS: &[(AnalysisKind, u32, &str)] = &[
+    (AnalysisKind::NotToml, 1, "NotToml"),
+    (AnalysisKind::NoPlatform, 2, "NoPlatform"),
+    (AnalysisKind::BadName, 3, "BadName"),
+    (AnalysisKind::NoCommands, 4, "NoCommands"),
+    (AnalysisKind::WrongType, 5, "WrongType"),
+    (AnalysisKind::BadPattern, 6, "BadPattern"),
+    (AnalysisKind::TooMany, 7, "TooMany"),
+    (AnalysisKind::BadPath, 8, "BadPath"),
+];
+
 #[test]
 fn kinds_have_numbers_and_names(rt: HostRuntime) -> Result<(), Fail> {
-    for (kind, number, name) in [
-        (AnalysisKind::NotToml, 1, "NotToml"),
-        (AnalysisKind::NoPlatform, 2, "NoPlatform"),
-        (AnalysisKind::BadName, 3, "BadName"),
-        (AnalysisKind::NoCommands, 4, "NoCommands"),
-        (AnalysisKind::WrongType, 5, "WrongType"),
-        (AnalysisKind::BadPattern, 6, "BadPattern"),
-        (AnalysisKind::TooMany, 7, "TooMany"),
-        (AnalysisKind::BadPath, 8, "BadPath"),
-    ] {
-        assert!(rt; kind.number() == number && kind.name() == name, "{name}");
+    for row in KINDS {
+        assert!(rt; is_told(row.0, row.1, row.2), "{}", row.2);
     }
     Ok(())
 }
 
+/// Files, and how the fault of each prints.
+const PRINTED: &[(&str, &str)] = &[
+    ("[", "the file is no TOML document"),
+    (
+        "[platform.a]",
+        "platform.a.commands: the platform has no commands",
+    ),
+];
+
 #[test]
 fn faults_print_their_places(rt: HostRuntime) -> Result<(), Fail> {
-    for (text, wanted) in [
-        ("[", "the file is no TOML document"),
-        (
-            "[platform.a]",
-            "platform.a.commands: the platform has no commands",
-        ),
-    ] {
-        assert!(rt; prints(rt.alloc(), text, wanted)?, "{text}");
+    for row in PRINTED {
+        assert!(rt; prints(rt.alloc(), row.0, row.1)?, "{}", row.0);
     }
     Ok(())
 }

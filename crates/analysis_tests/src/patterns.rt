@@ -193,23 +193,25 @@ fn many_stars_end_at_once(rt: HostRuntime) -> Result<(), Fail> {
 const LISTS: &str =
     "[platform.a]\ncommands = 'a'\n[codebase]\nexclude = ['build/', 'third_party/**', '*.def', '/src/gen_?.c']\nskip = ['z']\n";
 
-/// Each pattern of a list counts, and no other list does.
+/// Paths, and what those lists tell of each: each pattern of a list counts, and no other list does.
+const LISTED: &[(&str, (bool, bool))] = &[
+    ("build/x.c", (false, false)),
+    ("a/build/x.c", (false, false)),
+    ("third_party/a/b.h", (false, false)),
+    ("lib/t.def", (false, false)),
+    ("src/gen_1.c", (false, false)),
+    ("build", (true, false)),
+    ("x/third_party/a.h", (true, false)),
+    ("src/gen_12.c", (true, false)),
+    ("x/src/gen_1.c", (true, false)),
+    ("z/a.def", (false, true)),
+    ("z", (true, true)),
+];
+
 #[test]
 fn each_pattern_of_a_list_counts(rt: HostRuntime) -> Result<(), Fail> {
-    for (path, wanted) in [
-        ("build/x.c", (false, false)),
-        ("a/build/x.c", (false, false)),
-        ("third_party/a/b.h", (false, false)),
-        ("lib/t.def", (false, false)),
-        ("src/gen_1.c", (false, false)),
-        ("build", (true, false)),
-        ("x/third_party/a.h", (true, false)),
-        ("src/gen_12.c", (true, false)),
-        ("x/src/gen_1.c", (true, false)),
-        ("z/a.def", (false, true)),
-        ("z", (true, true)),
-    ] {
-        assert!(rt; told(rt.alloc(), LISTS, path)? == Some(wanted), "{path}");
+    for row in LISTED {
+        assert!(rt; told(rt.alloc(), LISTS, row.0)? == Some(row.1), "{}", row.0);
     }
     Ok(())
 }
