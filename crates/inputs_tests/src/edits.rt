@@ -80,35 +80,36 @@ fn edit_databases(alloc: Global, databases: &mut Databases, edit: Edit) -> Resul
     }
 }
 
+/// Edits of sources, the text that each answers, and how many sources it leaves.
+const SOURCES: &[(Edit, &[u8], usize)] = &[
+    (Edit::Put(b"a.c", b"x;\n"), b"", 1),
+    (
+        Edit::Put(b"b.c", b"\n#if A\n"),
+        b"bad source 6 OpenIf line 2",
+        1,
+    ),
+    (Edit::Remove(b"b.c"), b"not found", 1),
+    (Edit::Put(b"b/c.h", b""), b"store failed", 1),
+    (
+        Edit::Put(b"b/c.h", b"#endif"),
+        b"bad source 4 StrayEndif line 1",
+        1,
+    ),
+    (Edit::Put(b"b/c.h", b"#if A\nz;\n#endif\n"), b"", 2),
+    (Edit::Put(b"a.c", b"y;\n"), b"store failed", 2),
+    (Edit::Put(b"a.c", b"y;\n"), b"", 2),
+    (Edit::Remove(b"a.c"), b"store failed", 2),
+    (Edit::Remove(b"a.c"), b"", 1),
+    (Edit::Remove(b"a.c"), b"not found", 1),
+];
+
 /// The number of the first edit of sources that answers another text, or leaves another number of sources, where the second, fourth
 /// and sixth call of the keeper fail.
 fn wrong_source(alloc: Global, sources: &mut Sources) -> Result<Option<usize>, NoMemory> {
-    let rows: [(Edit, &[u8], usize); 11] = [
-        (Edit::Put(b"a.c", b"x;\n"), b"", 1),
-        (
-            Edit::Put(b"b.c", b"\n#if A\n"),
-            b"bad source 6 OpenIf line 2",
-            1,
-        ),
-        (Edit::Remove(b"b.c"), b"not found", 1),
-        (Edit::Put(b"b/c.h", b""), b"store failed", 1),
-        (
-            Edit::Put(b"b/c.h", b"#endif"),
-            b"bad source 4 StrayEndif line 1",
-            1,
-        ),
-        (Edit::Put(b"b/c.h", b"#if A\nz;\n#endif\n"), b"", 2),
-        (Edit::Put(b"a.c", b"y;\n"), b"store failed", 2),
-        (Edit::Put(b"a.c", b"y;\n"), b"", 2),
-        (Edit::Remove(b"a.c"), b"store failed", 2),
-        (Edit::Remove(b"a.c"), b"", 1),
-        (Edit::Remove(b"a.c"), b"not found", 1),
-    ];
     let mut keeper = MemKeeper::new(alloc, Numbers::from_slice(alloc, &[2, 4, 6])?);
-    for at in 0..rows.len() {
-        let (edit, expected, count) = rows[at];
-        let answer = edit_sources(alloc, sources, &mut keeper, edit);
-        if !has_text(alloc, answer, expected)? || sources.len() != count {
+    for (at, row) in SOURCES.iter().enumerate() {
+        let answer = edit_sources(alloc, sources, &mut keeper, row.0);
+        if !has_text(alloc, answer, row.1)? || sources.len() != row.2 {
             return Ok(Some(at));
         }
     }
@@ -130,26 +131,27 @@ fn sources_are_edited(rt: HostRuntime) -> Result<(), Fail> {
     Ok(())
 }
 
+/// Edits of databases, the text that each answers, and how many databases it leaves.
+const DATABASES: &[(Edit, &[u8], usize)] = &[
+    (Edit::Put(b"one.json", b"[]"), b"", 1),
+    (Edit::Put(b"two.json", b"{}"), b"bad database 2 NotArray", 1),
+    (
+        Edit::Put(b"two.json", b"[1]"),
+        b"bad database 3 NotObject 0",
+        1,
+    ),
+    (Edit::Put(b"one.json", b" [ ] "), b"", 1),
+    (Edit::Remove(b"two.json"), b"not found", 1),
+    (Edit::Remove(b"one.json"), b"", 0),
+    (Edit::Remove(b"one.json"), b"not found", 0),
+];
+
 /// The number of the first edit of databases that answers another text, or leaves another number of databases.
 fn wrong_database(alloc: Global) -> Result<Option<usize>, NoMemory> {
-    let rows: [(Edit, &[u8], usize); 7] = [
-        (Edit::Put(b"one.json", b"[]"), b"", 1),
-        (Edit::Put(b"two.json", b"{}"), b"bad database 2 NotArray", 1),
-        (
-            Edit::Put(b"two.json", b"[1]"),
-            b"bad database 3 NotObject 0",
-            1,
-        ),
-        (Edit::Put(b"one.json", b" [ ] "), b"", 1),
-        (Edit::Remove(b"two.json"), b"not found", 1),
-        (Edit::Remove(b"one.json"), b"", 0),
-        (Edit::Remove(b"one.json"), b"not found", 0),
-    ];
     let mut databases = Databases::new(alloc);
-    for at in 0..rows.len() {
-        let (edit, expected, count) = rows[at];
-        let answer = edit_databases(alloc, &mut databases, edit);
-        if !has_text(alloc, answer, expected)? || databases.len() != count {
+    for (at, row) in DATABASES.iter().enumerate() {
+        let answer = edit_databases(alloc, &mut databases, row.0);
+        if !has_text(alloc, answer, row.1)? || databases.len() != row.2 {
             return Ok(Some(at));
         }
     }

@@ -45,33 +45,35 @@ fn has_text(alloc: Global, input: Input, bytes: &[u8], expected: &[u8]) -> Resul
     Ok(text.as_slice() == expected)
 }
 
+/// Bytes and how they are read, and the text of their fault.
+const TEXTS: &[(Input, &[u8], &[u8])] = &[
+    (Input::Analysis, b"=", b"bad analysis 1 NotToml"),
+    (Input::Analysis, b"", b"bad analysis 2 NoPlatform platform"),
+    (
+        Input::Analysis,
+        b"[platform.cpu]\n",
+        b"bad analysis 4 NoCommands platform.cpu.commands",
+    ),
+    (Input::Database, b"", b"bad database 1 NotJson"),
+    (Input::Database, b"[{}]", b"bad database 4 Field 0"),
+    (
+        Input::Database,
+        b"[{\"directory\":\"\",\"file\":\"\",\"command\":\"'\"}]",
+        b"bad database 5 OpenQuote 0",
+    ),
+    (Input::Measurements, b"", b"bad measurements 1 Header row 1"),
+    (
+        Input::Measurements,
+        b"problem,platform,application,fom\na,b,c\n",
+        b"bad measurements 2 Fields row 2",
+    ),
+];
+
 /// The first bytes with another text.
 fn wrong_text(alloc: Global) -> Result<Option<&'static [u8]>, NoMemory> {
-    let rows: [(Input, &'static [u8], &[u8]); 8] = [
-        (Input::Analysis, b"=", b"bad analysis 1 NotToml"),
-        (Input::Analysis, b"", b"bad analysis 2 NoPlatform platform"),
-        (
-            Input::Analysis,
-            b"[platform.cpu]\n",
-            b"bad analysis 4 NoCommands platform.cpu.commands",
-        ),
-        (Input::Database, b"", b"bad database 1 NotJson"),
-        (Input::Database, b"[{}]", b"bad database 4 Field 0"),
-        (
-            Input::Database,
-            b"[{\"directory\":\"\",\"file\":\"\",\"command\":\"'\"}]",
-            b"bad database 5 OpenQuote 0",
-        ),
-        (Input::Measurements, b"", b"bad measurements 1 Header row 1"),
-        (
-            Input::Measurements,
-            b"problem,platform,application,fom\na,b,c\n",
-            b"bad measurements 2 Fields row 2",
-        ),
-    ];
-    for (input, bytes, expected) in rows {
-        if !has_text(alloc, input, bytes, expected)? {
-            return Ok(Some(bytes));
+    for row in TEXTS {
+        if !has_text(alloc, row.0, row.1, row.2)? {
+            return Ok(Some(row.1));
         }
     }
     Ok(None)
