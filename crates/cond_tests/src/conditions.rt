@@ -144,7 +144,8 @@ fn nests(alloc: Global, row: &NestedRow) -> Result<bool, NoMemory> {
     Ok(nested(alloc, row.0, (row.1, 1), row.2)? == row.3)
 }
 
-/// What stands so many times at the front, once in the middle and so many times at the end of a condition, and the answer.
+/// What stands so many times at the front, once in the middle and so many times at the end of a condition, and its
+/// answer.
 const NESTED: &[NestedRow] = &[
     (("(", 256), "1", (")", 256), Ok(true)),
     (("(", 257), "1", (")", 257), Err(BadCondition::TooDeep)),
