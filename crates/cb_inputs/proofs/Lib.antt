@@ -1,6 +1,7 @@
 pub mod Maps
 pub mod Denials
 pub mod DatabaseFaults
+pub mod MeasurementFaults
 pub mod SourceFaults
 pub mod KeptDatabases
 pub mod KeptSources
