@@ -1,5 +1,6 @@
 pub mod Maps
 pub mod Denials
+pub mod AnalysisFaults
 pub mod DatabaseFaults
 pub mod MeasurementFaults
 pub mod SourceFaults

@@ -4,16 +4,16 @@ use Rattle.cb_tree.specs.Sound.{IsRead, Reading}
 use Rattle.cb_compdb.specs.declared.fault.BadDatabase.{BadDatabase}
 use Rattle.cb_compdb.specs.Databases.{HasFault}
 use Rattle.cb_inputs.specs.declared.refused.BodyFault.{BodyFault}
-use Rattle.cb_inputs.specs.declared.refused.BodyFault.TheVariants as body
 use Rattle.cb_inputs.specs.declared.refused.LimitName.{LimitName}
 use Rattle.cb_inputs.specs.declared.refused.Refused.TheVariants as refused
 use Rattle.cb_inputs.specs.Texts.{first_over}
-use Rattle.cb_inputs.specs.Refusals.{IsAnalysisFault, IsMeasurementsFault}
 use Rattle.cb_inputs.specs.Inputs.{Inputs, Edit, PutAnalysis, PutMeasurements, PutDatabase, PutSource, RemoveDatabase, RemoveSource, after}
 use Rattle.cb_inputs.specs.Readings.{Known, IsKnown}
 use Rattle.cb_inputs.specs.Outcomes.{HasBodyFault, is_put, RemovesNothing, amounts, Outcome, Denies, IsOutcome, absent, removes, faulty, over, puts}
 use Rattle.cb_inputs.proofs.Denials.{told_of}
+use Rattle.cb_inputs.proofs.AnalysisFaults as analysis
 use Rattle.cb_inputs.proofs.DatabaseFaults as database
+use Rattle.cb_inputs.proofs.MeasurementFaults as measurements
 use Rattle.cb_inputs.proofs.SourceFaults as source
 
 -- what lower crates say: a source and a database have one first fault, and inputs say one thing
@@ -22,27 +22,9 @@ pub record Laws : Type 0 where
   pub fault : (bytes : List ℕ) (bad other : BadDatabase) → HasFault bytes bad → HasFault bytes other → bad ≡ other
   pub known : (i : Inputs) (some other : Known) → IsKnown i some → IsKnown i other → some ≡ other
 
-analysis_fault : (bytes : List ℕ) (fault other : BodyFault) → IsAnalysisFault bytes fault → IsAnalysisFault bytes other → fault ≡ other
-analysis_fault bytes (body.Source bad) other h k = absurd h
-analysis_fault bytes (body.Database bad) other h k = absurd h
-analysis_fault bytes (body.Csv bad) other h k = absurd h
-analysis_fault bytes (body.Analysis bad) (body.Source other) h k = absurd k
-analysis_fault bytes (body.Analysis bad) (body.Database other) h k = absurd k
-analysis_fault bytes (body.Analysis bad) (body.Csv other) h k = absurd k
-analysis_fault bytes (body.Analysis bad) (body.Analysis other) h k = let same : bad ≡ other = cc in ap body.Analysis same
-
-measurements_fault : (bytes : List ℕ) (fault other : BodyFault) → IsMeasurementsFault bytes fault → IsMeasurementsFault bytes other → fault ≡ other
-measurements_fault bytes (body.Source bad) other h k = absurd h
-measurements_fault bytes (body.Database bad) other h k = absurd h
-measurements_fault bytes (body.Analysis bad) other h k = absurd h
-measurements_fault bytes (body.Csv bad) (body.Source other) h k = absurd k
-measurements_fault bytes (body.Csv bad) (body.Database other) h k = absurd k
-measurements_fault bytes (body.Csv bad) (body.Analysis other) h k = absurd k
-measurements_fault bytes (body.Csv bad) (body.Csv other) h k = let same : bad ≡ other = cc in ap body.Csv same
-
 one_fault : Laws → (edit : Edit) (fault other : BodyFault) → HasBodyFault edit fault → HasBodyFault edit other → fault ≡ other
-one_fault L (PutAnalysis bytes) fault other h k = analysis_fault bytes fault other h k
-one_fault L (PutMeasurements bytes) fault other h k = measurements_fault bytes fault other h k
+one_fault L (PutAnalysis bytes) fault other h k = analysis.only_body bytes fault other h k
+one_fault L (PutMeasurements bytes) fault other h k = measurements.only_body bytes fault other h k
 one_fault L (PutDatabase path bytes) fault other h k = database.only_body L.fault bytes fault other h k
 one_fault L (PutSource path bytes) fault other h k = source.only_body L.reading bytes fault other h k
 one_fault L (RemoveDatabase path) fault other h k = absurd h

@@ -3,6 +3,7 @@ pub mod Faults
 pub mod Refusals
 pub mod Databases
 pub mod Sources
+pub mod Analysis
 pub mod Measurements
 pub mod Inputs
 pub mod Readings
