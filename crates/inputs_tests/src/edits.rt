@@ -15,7 +15,11 @@ enum Edit {
 }
 
 /// Whether an answer has this text, which is empty where the edit is accepted.
-fn has_text(alloc: Global, answer: Result<(), Refused>, expected: &[u8]) -> Result<bool, NoMemory> {
+pub(crate) fn has_text(
+    alloc: Global,
+    answer: Result<(), Refused>,
+    expected: &[u8],
+) -> Result<bool, NoMemory> {
     let mut text = Vec::new(alloc);
     if let Err(refused) = answer {
         refused.push_text(&mut text)?;
@@ -24,7 +28,7 @@ fn has_text(alloc: Global, answer: Result<(), Refused>, expected: &[u8]) -> Resu
 }
 
 /// The path that a text names.
-fn path_of(alloc: Global, text: &[u8]) -> Result<Path, NoMemory> {
+pub(crate) fn path_of(alloc: Global, text: &[u8]) -> Result<Path, NoMemory> {
     match Path::read(alloc, text) {
         Ok(path) => Ok(path),
         Err(PathFault::Bad(_)) => Err(NoMemory),

@@ -4,4 +4,6 @@
 #[cfg(test)]
 mod edits;
 #[cfg(test)]
+mod files;
+#[cfg(test)]
 mod texts;
