@@ -6,5 +6,6 @@ pub mod MeasurementFaults
 pub mod SourceFaults
 pub mod KeptDatabases
 pub mod KeptSources
+pub mod EntryCounts
 pub mod OneKnown
 pub mod OneOutcome

@@ -1,11 +1,16 @@
 //! The commands of an analysis.
-ghost use Rattle.std.specs.Prelude.{◌≡◌, Some, length, IfOk};
+ghost use Rattle.std.specs.Prelude.{◌≡◌, ◌≤◌, Some, length, sum_by, IfOk};
+ghost use Rattle.std.specs.Option.{option_copied};
 ghost use Rattle.cb_paths.specs.Paths.{folder_at};
-ghost use Rattle.cb_inputs.specs.Commands.{makes, root_of};
+ghost use Rattle.cb_analysis.specs.declared.platform.Platform.{Platform as Spec};
+ghost use Rattle.cb_inputs.specs.Commands.{command_count, entries_at, makes, root_of};
+ghost use Rattle.cb_inputs.specs.Databases.{database_entries};
+ghost use Rattle.cb_inputs.specs.Readings.{Known};
 
-use cb_analysis::Analysis;
+use crate::databases::Databases;
+use cb_analysis::{Analysis, Platform};
 use cb_compdb::{Entry, Made, command};
-use cb_paths::{Dir, NoMemory, PathFault};
+use cb_paths::{Dir, NoMemory, Path, PathFault};
 use std::alloc::Global;
 use std::marker::Model;
 
@@ -82,5 +87,42 @@ pub fn root(alloc: Global, base: &Dir, analysis: &Analysis) -> Result<Dir, NoMem
     match folder_at(alloc, text, base)? {
         Some(root) => Ok(root),
         None => base.copy(alloc),
+    }
+}
+
+/// The number of the entries of the database at a path; none where there is no database.
+fn entry_count(databases: &Databases, path: &Path) -> u64
+    ensures count { result ≡ length (entries_at (database_entries databases.now) path.now) }
+    ensures few { result ≤ 20000 }
+{
+    match databases.get(path) {
+        Some(database) => database.entries.len() as u64,
+        None => 0,
+    }
+}
+
+/// The number of the entries of all platforms' databases.
+fn entry_sum(platforms: &[Platform], databases: &Databases) -> u64
+    requires few { length platforms.now ≤ 32 }
+    ensures { result
+        ≡ sum_by (λ (platform : Spec). length (entries_at (database_entries databases.now) platform.commands)) platforms.now }
+{
+    let mut sum = 0;
+    'platforms: for platform in platforms {
+        sum += entry_count(databases, &platform.commands);
+    }
+    sum
+}
+
+/// The number of the commands of an analysis that may be missing: the sum over its platforms of the entries of their
+/// databases, and 0 where it is missing. A platform whose database is absent has no entry; two platforms with one
+/// database have its entries each.
+pub fn command_count(analysis: Option<&Analysis>, databases: &Databases) -> u64
+    ensures { (known : Known) → option_copied analysis.entry ≡ known.analysis → database_entries databases.now ≡ known.databases
+        → result ≡ command_count known }
+{
+    match analysis {
+        Some(analysis) => entry_sum(analysis.platforms(), databases),
+        None => 0,
     }
 }

@@ -1,5 +1,5 @@
 //! The databases by their paths.
-ghost use Rattle.std.specs.Prelude.{◌≡◌, ◌⊎◌, ◌≤◌, [], ◌∷◌, None, Some, length, All, IfOk, IfErr, OnOk, OnErr, option_map, is_some, true, ◌↔◌};
+ghost use Rattle.std.specs.Prelude.{◌≡◌, ◌⊎◌, ◌≤◌, [], ◌∷◌, None, Some, length, All, IfOk, IfErr, IfSome, OnOk, OnErr, option_map, is_some, true, ◌↔◌};
 ghost use Rattle.std.specs.Option.{option_copied};
 ghost use Rattle.std.specs.BTreeMap.{insert_entry};
 ghost use Rattle.std.specs.Map.{keys_of, values_of};
@@ -168,9 +168,10 @@ impl Databases {
         self.map.len()
     }
 
-    /// The database at a path, if there is one.
+    /// The database at a path, if there is one. It says what stands in its bytes.
     pub fn get(&self, path: &Path) -> Option<&Database>
-        ensures { option_copied result ≡ value_at path.now self.now }
+        ensures value { option_copied result ≡ value_at path.now self.now }
+        ensures read { IfSome (value_at path.now self.now) IsReadDatabase }
     {
         self.map.get(path)
     }

@@ -13,7 +13,7 @@ mod sizes;
 mod source;
 mod sources;
 
-pub use commands::{MadeList, made, root};
+pub use commands::{MadeList, command_count, made, root};
 pub use database::Database;
 pub use databases::Databases;
 pub use kept_analysis::{AnalysisFile, KeptAnalysis};
