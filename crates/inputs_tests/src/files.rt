@@ -14,8 +14,8 @@ fn platform_count(file: &AnalysisFile) -> usize {
     }
 }
 
-/// The number of the first put of an analysis that answers another text, or leaves another number of platforms, where the second call
-/// of the keeper fails.
+/// The number of the first put of an analysis that answers another text, or leaves another number of platforms, where
+/// the second call of the keeper fails.
 fn wrong_analysis(alloc: Global) -> Result<Option<usize>, NoMemory> {
     let rows: [(&[u8], &[u8], usize); 5] = [
         (b"", b"bad analysis 2 NoPlatform platform", 0),
@@ -58,8 +58,8 @@ fn row_count(measurements: &Measurements) -> usize {
     }
 }
 
-/// The number of the first put of measurements that answers another text, or leaves another number of rows, where the second call of
-/// the keeper fails.
+/// The number of the first put of measurements that answers another text, or leaves another number of rows, where the
+/// second call of the keeper fails.
 fn wrong_measurements(alloc: Global) -> Result<Option<usize>, NoMemory> {
     let rows: [(&[u8], &[u8], usize); 5] = [
         (b"", b"bad measurements 1 Header row 1", 0),
