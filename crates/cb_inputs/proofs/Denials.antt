@@ -1,5 +1,5 @@
 -- What a put is refused for, by the step that refuses it.
-use Rattle.std.proofs.Common.{◌≡◌, ◌⊎◌, ◌∙◌, ℕ, List, [], Option, Some, None, refl, sym, ap, inl, inr}
+use Rattle.std.proofs.Common.{◌≡◌, ◌⊎◌, ◌∙◌, ℕ, List, [], Option, Some, None, Result, Err, refl, sym, ap, inl, inr}
 use Rattle.cb_inputs.specs.declared.refused.BodyFault.{BodyFault}
 use Rattle.cb_inputs.specs.declared.refused.LimitName.{LimitName}
 use Rattle.cb_inputs.specs.declared.refused.Refused.{Refused}
@@ -20,6 +20,15 @@ module _ (HasFault : BodyFault → Type 0) (amounts : List (LimitName × ℕ)) w
   none_told (Limit name n) refused t none = cc
   none_told Store refused t none = absurd t
   none_told NoMemory refused t none = inr refl
+
+  -- a limit that is passed is not told before limits are looked at
+  pub no_limit : {T : Type 0} (result : Result T Refused) (told : Refused) → result ≡ Err told → TellsPut HasFault [] told
+      → (name : LimitName) (n : ℕ) → result ≡ Err (Limit name n) → ⊥
+  no_limit result (Body fault) e t name n h = cc
+  no_limit result Absent e t name n h = t
+  no_limit result (Limit other m) e t name n h = let first : first_over [] ≡ Some (other, m) = t.1 in cc
+  no_limit result Store e t name n h = t
+  no_limit result NoMemory e t name n h = cc
 
   -- the bytes are refused
   pub body_decides : (told : Refused) → TellsPut HasFault [] told → ((fault : BodyFault) → HasFault fault → (told ≡ Body fault) ⊎ (told ≡ NoMemory))

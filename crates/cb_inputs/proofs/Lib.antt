@@ -7,5 +7,7 @@ pub mod SourceFaults
 pub mod KeptDatabases
 pub mod KeptSources
 pub mod EntryCounts
+pub mod KeptReadings
+pub mod SourceEdits
 pub mod OneKnown
 pub mod OneOutcome

@@ -162,6 +162,7 @@ impl Databases {
     pub fn len(&self) -> usize
         ensures count { result ≡ length self.now }
         ensures few { length self.now ≤ 64 }
+        ensures within { bytes_in (database_texts self.now) ≤ 268435456 }
         ensures rising { IsStrictlySortedBy (slice_cmp nat_cmp) (keys_of self.now) }
         ensures read { All IsReadDatabase (values_of self.now) }
     {

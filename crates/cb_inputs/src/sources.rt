@@ -12,8 +12,9 @@ ghost use Rattle.cb_outside.specs.Tables.{changed, put, removed};
 ghost use Rattle.cb_outside.specs.declared.kept.Table.TheVariants as table;
 ghost use Rattle.cb_inputs.specs.Texts.{bytes_in, source_amounts, first_over, value_at};
 ghost use Rattle.cb_inputs.specs.Refusals.{IsSourceFault, IsDenied, IsOutside};
-ghost use Rattle.cb_inputs.specs.Sources.{source_texts, IsReadSource};
+ghost use Rattle.cb_inputs.specs.Sources.{source_texts, IsReadSource, IsSource};
 ghost use Rattle.cb_inputs.specs.inner.Kept.{AreSources, TellsPut};
+ghost use Rattle.cb_inputs.specs.declared.refused.LimitName.{LimitName as Name};
 ghost use Rattle.cb_inputs.specs.declared.refused.Refused.{Refused as Refusal};
 ghost use Rattle.cb_inputs.specs.declared.source.Source.{Source as Known};
 
@@ -216,6 +217,7 @@ impl Sources {
         ensures sound { OnOk result ((refused : Refusal)
             → IsDenied (IsSourceFault bytes.now)
             (source_amounts (put path.now bytes.now (source_texts self.now))) refused → ⊥) }
+        ensures before_limits { (name : Name) (n : ℕ) → result ≡ Err (Refused.Limit name n) → IsSource bytes.now }
     {
         let source = match read_source(alloc, bytes) {
             Ok(source) => source,
@@ -290,6 +292,8 @@ impl Sources {
         ensures every { (refused : Refusal) → IsDenied (IsSourceFault bytes.now)
             (source_amounts (put path.now bytes.now (source_texts self.old))) refused
             → (result ≡ Err refused) ⊎ (result ≡ Err Refused.NoMemory) }
+        ensures source { OnOk result (IsSource bytes.now) }
+        ensures before_limits { (name : Name) (n : ℕ) → result ≡ Err (Refused.Limit name n) → IsSource bytes.now }
         ensures kept { OnOk result
             (K.tables keeper.new ≡ option_map (changed table.Sources (put path.now bytes.now)) (K.tables keeper.old)) }
         ensures told { OnErr result (K.tables keeper.new ≡ K.tables keeper.old) }
