@@ -105,7 +105,8 @@ fn entry_count(databases: &Databases, path: &Path) -> u64
 fn entry_sum(platforms: &[Platform], databases: &Databases) -> u64
     requires few { length platforms.now ≤ 32 }
     ensures { result
-        ≡ sum_by (λ (platform : Spec). length (entries_at (database_entries databases.now) platform.commands)) platforms.now }
+        ≡ sum_by (λ (platform : Spec). length (entries_at (database_entries databases.now) platform.commands))
+        platforms.now }
 {
     let mut sum = 0;
     'platforms: for platform in platforms {
@@ -118,8 +119,8 @@ fn entry_sum(platforms: &[Platform], databases: &Databases) -> u64
 /// databases, and 0 where it is missing. A platform whose database is absent has no entry; two platforms with one
 /// database have its entries each.
 pub fn command_count(analysis: Option<&Analysis>, databases: &Databases) -> u64
-    ensures { (known : Known) → option_copied analysis.entry ≡ known.analysis → database_entries databases.now ≡ known.databases
-        → result ≡ command_count known }
+    ensures { (known : Known) → option_copied analysis.entry ≡ known.analysis
+        → database_entries databases.now ≡ known.databases → result ≡ command_count known }
 {
     match analysis {
         Some(analysis) => entry_sum(analysis.platforms(), databases),

@@ -1,6 +1,6 @@
 //! The analysis that is kept.
-ghost use Rattle.std.specs.Prelude.{◌≡◌, ◌⊎◌, ◌≤◌, [], Ok, Err, None, Some, IfOk, IfErr, IfSome, OnOk, OnErr, option_map};
-ghost use Rattle.std.specs.Option.{option_copied};
+ghost use Rattle.std.specs.Prelude.{◌≡◌, ◌⊎◌, ◌≤◌, [], Ok, Err, None, Some, IfOk, IfErr, IfSome, OnOk, OnErr};
+ghost use Rattle.std.specs.Option.{option_copied, option_map};
 ghost use Rattle.cb_analysis.specs.Analyses.{analysis};
 ghost use Rattle.cb_outside.specs.Outside.{Rose};
 ghost use Rattle.cb_outside.specs.Tables.{changed, put};
