@@ -107,8 +107,8 @@ const SOURCES: &[(Edit, &[u8], usize)] = &[
     (Edit::Remove(b"a.c"), b"not found", 1),
 ];
 
-/// The number of the first edit of sources that answers another text, or leaves another number of sources, where the second, fourth
-/// and sixth call of the keeper fail.
+/// The number of the first edit of sources that answers another text, or leaves another number of sources, where the
+/// second, fourth and sixth call of the keeper fail.
 fn wrong_source(alloc: Global, sources: &mut Sources) -> Result<Option<usize>, NoMemory> {
     let mut keeper = MemKeeper::new(alloc, Numbers::from_slice(alloc, &[2, 4, 6])?);
     for (at, row) in SOURCES.iter().enumerate() {

@@ -2,6 +2,8 @@
 #![tactic(auto)]
 
 #[cfg(test)]
+mod all_inputs;
+#[cfg(test)]
 mod commands;
 #[cfg(test)]
 mod edits;
