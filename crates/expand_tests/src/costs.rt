@@ -46,7 +46,10 @@ const SIZES: &[(&str, Option<(usize, usize)>)] = &[
     ("a13 a11 a9 a7 a5 a3 a2 a1 e e e f(e)", None),
     ("f(a13 a11 a9 a7 a5 a3 a2 a1)", None),
     // an argument is expanded once: twice at each depth would not end within a test's time
-    ("f(f(f(f(f(f(f(f(f(f(f(f(f(f(f(f(f(f(f(f(f(f(f(f(f(f(f(f(f(f(f(f(x))))))))))))))))))))))))))))))))", Some((1, 1))),
+    (
+        "f(f(f(f(f(f(f(f(f(f(f(f(f(f(f(f(f(f(f(f(f(f(f(f(f(f(f(f(f(f(f(f(x))))))))))))))))))))))))))))))))",
+        Some((1, 1)),
+    ),
 ];
 
 #[test]
