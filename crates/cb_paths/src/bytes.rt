@@ -155,11 +155,16 @@ impl Bytes {
         })
     }
 
-    /// A second text of the same bytes.
+    /// A second text of the same bytes. One of up to 15 bytes takes no memory, and is copied as it lies.
     pub fn copy(&self, alloc: Global) -> Result<Bytes, NoMemory>
         ensures { IfOk result (λ b. b ≡ self.now) }
     {
-        Bytes::from_slice(alloc, self.as_slice())
+        let text = match &self.text {
+            Text::Short(len, bytes) => Text::Short(*len, *bytes),
+            Text::Full(bytes) => Text::Full(*bytes),
+            Text::Long(bytes) => long(alloc, bytes.as_slice())?,
+        };
+        Ok(Bytes { text })
     }
 
     /// The bytes in order.
