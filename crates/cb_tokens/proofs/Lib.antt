@@ -16,7 +16,6 @@ pub mod Alike
 pub mod OneCut
 pub mod Stretches
 pub mod Feeds
-pub mod Flags
 pub mod Masks
 pub mod MarksLeft
 pub mod Decided

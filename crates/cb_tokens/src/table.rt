@@ -4,19 +4,6 @@ ghost use Rattle.cb_tokens.specs.Forms.{is_white, is_name_byte};
 ghost use Rattle.cb_tokens.specs.Plain.{is_quiet};
 ghost use Rattle.cb_tokens.specs.inner.Scan.{is_second};
 
-const SECOND: u8 = 8;
-
-// For each byte 8 where it is the second byte of some punctuator, else 0: held against the punctuators by computing.
-static SECONDS: [u8; 256] = *b"\
-    00000000000000000000000000000000\
-    00080880000808800000000000808880\
-    00000000000000000000000000000000\
-    00000000000000000000000000008000\
-    00000000000000000000000000000000\
-    00000000000000000000000000000000\
-    00000000000000000000000000000000\
-    00000000000000000000000000000000";
-
 /// Whether it is white.
 #[inline]
 #[tactic(auto, unfolding(crate::specs::Forms::is_white))]
@@ -50,8 +37,19 @@ pub(crate) fn is_quiet(byte: u8) -> bool
 
 /// Whether it is the second byte of some punctuator.
 #[inline]
+#[tactic(auto, unfolding(crate::specs::inner::Scan::is_second))]
 pub(crate) fn is_second(byte: u8) -> bool
     ensures { result ≡ is_second byte }
 {
-    SECONDS[byte as usize] & SECOND != 0
+    byte == b'#'
+        || byte == b'%'
+        || byte == b'&'
+        || byte == b'+'
+        || byte == b'-'
+        || byte == b'.'
+        || byte == b':'
+        || byte == b'<'
+        || byte == b'='
+        || byte == b'>'
+        || byte == b'|'
 }

@@ -1,8 +1,7 @@
 -- What the scanners of single forms answer.
 use Rattle.std.specs.Prelude.{◌≡◌, ℕ, ◌+◌, ◌≤◌, ◌==◌, ◌&&◌, ◌||◌, Bool, true, false, not, nat_lt, if◌then◌else◌, List, length, take, slice_index, Option, Some, None}
-use Rattle.std.specs.List.{list_any}
 use Rattle.cb_lines.specs.Marks.{is_line_feed}
-use Rattle.cb_tokens.specs.Forms.{is_quote, punctuators, closes, stays_unclosed, ends_comment, has_comment_end}
+use Rattle.cb_tokens.specs.Forms.{is_quote, closes, stays_unclosed, ends_comment, has_comment_end}
 use Rattle.cb_tokens.specs.Cut.{NoneLonger}
 use Rattle.cb_tokens.specs.declared.token.TokenKind.{TokenKind}
 use Rattle.cb_tokens.specs.declared.token.TokenKind.TheVariants.{Char, Str}
@@ -49,7 +48,9 @@ prefix_before_quote bytes =
 
 -- the second byte of some punctuator (own)
 unfoldable pub is_second : ℕ → Bool
-is_second byte = list_any (λ p. nat_lt 1 (length p) && (slice_index p 1 == byte)) punctuators
+is_second byte =
+    (byte == 35) || (byte == 37) || (byte == 38) || (byte == 43) || (byte == 45) || (byte == 46) || (byte == 58)
+    || (byte == 60) || (byte == 61) || (byte == 62) || (byte == 124)
 
 -- within a quote, and neither its end, nor an escape, nor a line end (own)
 unfoldable pub is_inner : ℕ → ℕ → Bool
