@@ -41,6 +41,9 @@ fn meaning_in(language: Language, mut rest: Rest, frames: &mut [Frame]) -> Attem
 /// The frames that are enough for most conditions.
 const FEW_FRAMES: usize = 16;
 
+/// The frames that are enough for most conditions in which macros put their parentheses.
+const SEVERAL_FRAMES: usize = 64;
+
 /// The frames that are enough for conditions that are nested more deeply, and still cost little to make.
 const MANY_FRAMES: usize = 256;
 
@@ -54,6 +57,15 @@ fn meaning_in_few(language: Language, rest: Rest) -> Attempt
     ensures { IsAttempt (symbols language (left rest.entry)) FEW_FRAMES result }
 {
     let mut frames = [Frame::Inside(Prefixes::NONE); FEW_FRAMES];
+    meaning_in(language, rest, &mut frames)
+}
+
+/// Reads a condition in a room that is not small.
+#[inline(never)]
+fn meaning_in_several(language: Language, rest: Rest) -> Attempt
+    ensures { IsAttempt (symbols language (left rest.entry)) SEVERAL_FRAMES result }
+{
+    let mut frames = [Frame::Inside(Prefixes::NONE); SEVERAL_FRAMES];
     meaning_in(language, rest, &mut frames)
 }
 
@@ -81,6 +93,9 @@ pub(crate) fn meaning_of(language: Language, rest: Rest) -> Option<Meaning>
     ensures { IsReadAs (symbols language (left rest.entry)) result }
 {
     if let Attempt::Read(meaning) = meaning_in_few(language, rest) {
+        return meaning;
+    }
+    if let Attempt::Read(meaning) = meaning_in_several(language, rest) {
         return meaning;
     }
     if let Attempt::Read(meaning) = meaning_in_many(language, rest) {
