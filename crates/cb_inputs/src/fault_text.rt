@@ -161,7 +161,8 @@ impl LimitName {
         }
     }
 
-    /// How much may be kept: 20,000 sources, 64 databases, 268,435,456 bytes of each of them, 20,000 commands.
+    /// How much may be kept: 20,000 sources, 64 databases, 268,435,456 bytes of all sources together, and as many of all
+    /// databases, 20,000 commands.
     pub fn most(self) -> u64
         ensures { result ≡ most self }
     {
@@ -178,7 +179,8 @@ impl LimitName {
 impl BodyFault {
     /// Adds its text to another: `bad source`, `bad analysis`, `bad database` or `bad measurements`, the number and
     /// the name of the fault, and then `line` with the line of a source, the place in an analysis unless it is empty,
-    /// the entry of a database where the fault is told of one, or `row` with the row of measurements.
+    /// the entry of a database where the fault is told of one, or `row` with the row of measurements. Its one error is
+    /// out of memory, after which the text may hold a part of it.
     pub fn push_text(&self, text: &mut Vec<u8>) -> Result<(), NoMemory>
         ensures { OnOk result (text.new.items ≡ text.old.items ++ body_text self.now) }
     {
@@ -215,7 +217,7 @@ fn push_fixed(text: &mut Vec<u8>, fixed: &[u8]) -> Result<(), NoMemory>
 
 impl Refused {
     /// Adds its text to another: that of the fault, `not found`, `limit NAME GOT LIMIT`, `store failed` or `out of
-    /// memory`.
+    /// memory`. Its one error is out of memory, after which the text may hold a part of it.
     pub fn push_text(&self, text: &mut Vec<u8>) -> Result<(), NoMemory>
         ensures { OnOk result (text.new.items ≡ text.old.items ++ refused_text self.now) }
     {

@@ -7,7 +7,7 @@ ghost use Rattle.cb_inputs.specs.Outcomes.{Outcome, IsOutcome};
 use cb_compdb::one_database;
 use cb_tree::one_reading;
 
-/// Inputs say one thing, and one thing comes of an edit: it is accepted, or refused for one cause.
+/// Inputs say at most one thing, and at most one thing comes of an edit: it is accepted, or refused for one cause.
 pub fn one_outcome()
     ensures known { (i : Inputs) (some other : Known) → IsKnown i some → IsKnown i other → some ≡ other }
     ensures outcome { (i : Inputs) (edit : Edit) (some other : Outcome)
