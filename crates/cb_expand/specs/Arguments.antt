@@ -15,6 +15,7 @@ sign Punct text =
     else (if bytes_eq text (codes ")") then Close else (if bytes_eq text (codes ",") then Comma else Plain))
 sign _ text = Plain
 
+-- the same of a token (6.10.3, paragraphs 10 and 11)
 abbrev pub sign_of_token : Shaded → Sign
 sign_of_token t = sign t.kind t.text
 

@@ -83,8 +83,8 @@ fn run(alloc: Global, macros: &Macros, mode: Mode, work: &mut Work) -> Result<()
 
 /// What tokens become when macros are replaced among them, and what these put in is read again together with what
 /// stands behind it (6.10.3, 6.10.3.4, and in conditions 6.10.1). Each replacement costs 1 and the number of the tokens
-/// that it puts in, and each argument that is expanded costs that once. It is `TooLong` exactly where the tokens cost more
-/// than `COST_LIMIT`, and then ends as soon as that is certain. Where memory is wanting it may be `NoMemory`.
+/// that it puts in, and each argument that is expanded costs that once. It is `TooLong` exactly where no expansion of the
+/// tokens costs `COST_LIMIT` or less, and then ends as soon as that is certain. Its other error is out of memory.
 ///
 /// Tokens before the first name of a macro are looked up once each, and only copied.
 pub fn expand(

@@ -7,7 +7,7 @@ use thiserror::Error;
 /// Why tokens are not expanded.
 #[derive(Clone, Copy, Debug, PartialEq, Eq, Error)]
 pub enum ExpandFault {
-    /// Their expansion costs more than 65,536.
+    /// No expansion of them costs 65,536 or less.
     #[error("expansion too long")]
     TooLong,
     /// There was not enough memory.
