@@ -1,4 +1,4 @@
-//! Laws of commands, of searches and of the paths that they ask for.
+//! Laws of commands, of searches and of the paths that they ask about.
 ghost use Rattle.std.specs.Prelude.{◌≡◌, ℕ, Bool, true, ◌||◌, ◌++◌, List, Some};
 ghost use Rattle.std.specs.Bool.{Decides};
 ghost use Rattle.std.specs.List.{find};
@@ -17,7 +17,7 @@ pub fn same_values()
 
 /// A search depends on nothing but its probes: where a second test agrees with a first one on the paths up to the first
 /// that passes, it finds the same path, after the same ones. And the path that is found passes, and is among those
-/// asked for.
+/// asked about.
 pub fn one_search()
     ensures found { (some other : List ℕ → Bool) (paths : List (List ℕ))
         → ((path : List ℕ) → has_path (up_to some paths) path ≡ true → some path ≡ other path)

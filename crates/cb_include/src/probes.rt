@@ -1,4 +1,4 @@
-//! The paths that a search has asked for.
+//! The paths that a search has asked about.
 ghost use Rattle.std.specs.Prelude.{◌≡◌, ◌==◌, [], length, slice_get, position, bytes_eq, OnOk, OnErr};
 ghost use Rattle.std.specs.List.{IsDistinct};
 ghost use Rattle.std.specs.Option.{option_copied};

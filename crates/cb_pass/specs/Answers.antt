@@ -1,4 +1,4 @@
--- What a pass asks of its macros, and the answers. A question has one answer.
+-- What a pass asks of its macros, and the answers.
 use Rattle.std.specs.Prelude.{◌≡◌, ℕ, ◌==◌, ◌⊎◌, Bool, if◌then◌else◌, List, length, Option, Some, None, Result, Ok, Err}
 use Rattle.cb_paths.specs.declared.language.Language.{Language}
 use Rattle.cb_tokens.specs.declared.token.Token.{Token}

@@ -1,4 +1,4 @@
--- What a step of a pass asks of the files: the only place where a pass looks at them (6.10.2).
+-- What a step of a pass asks of the files (6.10.2).
 use Rattle.std.specs.Prelude.{◌≡◌, ℕ, ◌+◌, ◌==◌, ◌&&◌, nat_lt, Bool, not, if◌then◌else◌, List, [], ◌∷◌, length, Option, Some, None}
 use Rattle.std.specs.List.{find}
 use Rattle.std.specs.Option.{is_some}
@@ -58,6 +58,7 @@ waiting_request command (Forced text ∷ ws) =
     if length text == 0 then Stays else Searches None (start_of command) 0 (quote_header text)
 waiting_request command (Main ∷ ws) = Begins
 
+-- the request at the next node of the innermost file, else of what waits (own)
 abbrev pub request_in : Command → List Frame → List Waiting → ℕ → Answer → Request
 request_in command [] waiting count answer = waiting_request command waiting
 request_in command (f ∷ fs) waiting count answer = frame_request f f.rest count answer
@@ -75,7 +76,7 @@ abbrev pub entering : List ℕ → ℕ → Option (List Bone) → State → Stat
 entering path depth None s = s
 entering path depth (Some bones) s = record s { frames = first_frame path depth bones ∷ s.frames }
 
--- the file at a path is present
+-- the file at a path is present (own)
 abbrev pub is_present : Files → List ℕ → Bool
 is_present files path = is_some (files path)
 

@@ -28,10 +28,11 @@ up_to_greater (t ∷ ts) =
     if bytes_eq t.text (codes ">") then Some (space_before t)
     else option_map (λ text. space_before t ++ t.text ++ text) (up_to_greater ts)
 
--- a header between quotes, or between < and > (6.4.7)
+-- a header between quotes (6.4.7)
 abbrev pub quote_header : List ℕ → Header
 quote_header text = record { angle = false; text = text }
 
+-- a header between < and > (6.4.7)
 abbrev pub angle_header : List ℕ → Header
 angle_header text = record { angle = true; text = text }
 

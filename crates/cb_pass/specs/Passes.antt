@@ -57,6 +57,7 @@ start_with command (Some bones) = record {
   notes = [];
 }
 
+-- the state at the start over these files (own)
 abbrev pub start : Files → Command → State
 start files command = start_with command (files command.main)
 
@@ -66,6 +67,7 @@ is_over_in [] [] = true
 is_over_in [] (w ∷ ws) = false
 is_over_in (f ∷ fs) waiting = false
 
+-- no file is being read at a state, and nothing waits (own)
 abbrev pub is_over : State → Bool
 is_over s = is_over_in s.frames s.waiting
 

@@ -7,7 +7,7 @@ abbrev pub is_live : List Section → Bool
 is_live [] = true
 is_live (s ∷ ss) = s.now
 
--- the innermost section stands in live text
+-- the innermost section stands in live text (6.10.1 paragraph 6)
 abbrev pub is_before_live : List Section → Bool
 is_before_live [] = false
 is_before_live (s ∷ ss) = s.before
@@ -18,7 +18,7 @@ abbrev pub may_be_taken : List Section → Bool
 may_be_taken [] = false
 may_be_taken (s ∷ ss) = s.before && not s.taken
 
--- a section opens, with the condition of its first group
+-- a section opens, with the condition of its first group (6.10.1 paragraph 6)
 abbrev pub entered : Bool → List Section → List Section
 entered condition ss =
     record { before = is_live ss; taken = is_live ss && condition; now = is_live ss && condition } ∷ ss
@@ -29,6 +29,7 @@ abbrev pub section_continued : Bool → Section → Section
 section_continued condition s =
     record { before = s.before; taken = s.taken || (s.before && condition); now = s.before && not s.taken && condition }
 
+-- the innermost section goes on with a group that has a condition (6.10.1 paragraph 6)
 abbrev pub continued : Bool → List Section → List Section
 continued condition [] = []
 continued condition (s ∷ ss) = section_continued condition s ∷ ss
@@ -37,11 +38,12 @@ continued condition (s ∷ ss) = section_continued condition s ∷ ss
 abbrev pub section_turned : Section → Section
 section_turned s = record { before = s.before; taken = true; now = s.before && not s.taken }
 
+-- the innermost section goes on with its #else group (6.10.1 paragraph 6)
 abbrev pub turned : List Section → List Section
 turned [] = []
 turned (s ∷ ss) = section_turned s ∷ ss
 
--- #endif
+-- #endif closes the innermost section (6.10, if-section)
 abbrev pub closed : List Section → List Section
 closed [] = []
 closed (s ∷ ss) = ss

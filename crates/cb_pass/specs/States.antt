@@ -22,8 +22,8 @@ pub data Waiting : Type 0 where
   Main : Waiting
 
 -- the files that are being read, the innermost first; what waits; the macros; the paths that are not entered again;
--- whether a node of a path was reached, and how many nodes were, with repeats; the paths that were looked at; and the
--- notes (own)
+-- whether a node of a path was reached, and how many nodes were, with repeats; the paths that were asked about; and
+-- the notes (own)
 pub record State : Type 0 where
   pub frames : List Frame
   pub waiting : List Waiting

@@ -65,6 +65,7 @@ waiting_question (Given op ∷ ws) = Word op
 waiting_question (Forced text ∷ ws) = Nothing
 waiting_question (Main ∷ ws) = Nothing
 
+-- the question at the next node of the innermost file, else of what waits (own)
 abbrev pub question_in : List Frame → List Waiting → ℕ → Question
 question_in [] waiting count = waiting_question waiting
 question_in (f ∷ fs) waiting count = frame_question f.rest f.sections count
@@ -78,11 +79,12 @@ abbrev pub first_name : List Token → Option (List ℕ)
 first_name [] = None
 first_name (t ∷ ts) = if is_identifier_kind t.kind then Some t.text else None
 
--- #ifdef and #ifndef by the identifier that stands first; without one they are false (6.10.1 paragraph 5; false is own)
+-- #ifdef: the identifier that stands first is defined; without one it is false (6.10.1 paragraph 5; false is own)
 abbrev pub has_macro : Option (List ℕ) → Macros → Bool
 has_macro None macros = false
 has_macro (Some name) macros = is_some (found macros name)
 
+-- #ifndef: it is not defined; without an identifier this is false too (6.10.1 paragraph 5; false is own)
 abbrev pub lacks_macro : Option (List ℕ) → Macros → Bool
 lacks_macro None macros = false
 lacks_macro (Some name) macros = not (is_some (found macros name))
@@ -146,20 +148,20 @@ effect Once place rest answer s = record s { once = with_path s.once place.path 
 effect Error place rest answer s = with_note place note.ErrorReached [] s
 effect _ place rest answer s = s
 
--- the nodes reached with one more
+-- the nodes reached with one more (own)
 abbrev pub with_node : Place → (List ℕ → ℕ → Bool) → List ℕ → ℕ → Bool
 with_node place reached path node = (bytes_eq path place.path && (node == place.node)) || reached path node
 
--- a node is reached
+-- a node is reached (own)
 abbrev pub counted : Bool → Place → State → State
 counted reached place s =
     if reached then record s { reached = with_node place s.reached; count = suc s.count } else s
 
--- the place of a file's next node
+-- the place of a file's next node (own)
 abbrev pub place_in : Frame → Place
 place_in f = record { path = f.path; node = f.node }
 
--- a file behind its next node
+-- a file behind its next node (own)
 abbrev pub behind_node : Frame → List Bone → List Section → Frame
 behind_node f rest sections = record f { node = suc f.node; rest = rest; sections = sections }
 
@@ -186,7 +188,7 @@ turned_frame answer f [] fs s = record s { frames = fs }
 turned_frame answer f (b ∷ bs) fs s =
     if is_spent b.kind f.sections s.count then ended (place_in f) s else behind answer f b bs fs s
 
--- the word of -D or -U
+-- the word of -D or -U (own)
 abbrev pub word_of : Op → List ℕ
 word_of (op.Define word) = word
 word_of (op.Undef word) = word

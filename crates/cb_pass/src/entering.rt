@@ -109,7 +109,7 @@ fn enter_found<'a, F: Files>(
     Ok(opened(alloc, files, trail, depth, found))
 }
 
-/// The file at a path that was looked at, before its first node, where it is present.
+/// The file at a path that was asked about, before its first node, where it is present.
 fn opened<'a, F: Files>(
     alloc: Global,
     files: &'a F,

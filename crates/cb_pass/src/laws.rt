@@ -9,7 +9,7 @@ use cb_cond::one_condition;
 use cb_expand::one_expansion;
 use cb_macro::one_word;
 
-/// The pass of a command over files has one outcome.
+/// The pass of a command over files has at most one outcome.
 pub fn one_pass()
     ensures { (files : Files) (command : Told) (a b : Outcome)
         → IsPass files command a → IsPass files command b → a ≡ b }

@@ -1,4 +1,4 @@
-//! The pass of one command over many files: which nodes it reaches, which paths it looks at, and what it has to tell.
+//! The pass of one command over many files: which nodes it reaches, which paths it asks about, and what it has to tell.
 #![tactic(auto)]
 
 mod answer;

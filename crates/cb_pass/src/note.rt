@@ -17,7 +17,7 @@ pub enum NoteKind {
     Redefined,
     /// A condition has a fault.
     BadCondition,
-    /// The tokens of a condition or of an `#include` are too long after replacement.
+    /// Replacement in a condition or an `#include` would cost more than 65,536.
     TooLong,
     /// A header was not entered because of the depth.
     TooDeep,
@@ -67,7 +67,7 @@ impl NoteKind {
     }
 }
 
-/// A note: where it was left, and what it tells. Notes are in the order of these fields.
+/// A note: where it was left, and what it tells. Notes compare by these fields, in this order.
 #[derive(PartialEq, Eq, PartialOrd, Ord, Hash, Drop)]
 pub struct Note {
     /// The file; of the start of a command it is the main file.

@@ -21,7 +21,7 @@ use std::marker::Model;
 #[derive(Drop)]
 pub(crate) struct OpenFile<'a> {
     path: Path,
-    /// The place of the path among those that were looked at.
+    /// The place of the path among those that were asked about.
     place: usize,
     tree: &'a Tree,
     /// How many nodes it has.
@@ -85,7 +85,7 @@ impl<'a> OpenFile<'a> {
         &self.path
     }
 
-    /// The place of its path among those that were looked at.
+    /// The place of its path among those that were asked about.
     pub(crate) fn place(&self) -> usize
         ensures { result ≡ self.now.place }
     {

@@ -11,7 +11,7 @@ use cb_include::Probes;
 use cb_paths::Path;
 use std::marker::Model;
 
-/// What comes of a pass: which nodes of which files it reached, how many, which paths it looked at, and its notes.
+/// What comes of a pass: which nodes of which files it reached, how many, which paths it asked about, and its notes.
 /// Contracts see it as these, with a set of nodes for each of the paths.
 #[derive(Drop)]
 pub struct Passed {
@@ -51,7 +51,7 @@ impl Passed {
         self.count
     }
 
-    /// The paths that the pass looked at, in the order in which it first did. The first is that of the main file, as
+    /// The paths that the pass asked about, in the order in which it first did. The first is that of the main file, as
     /// `pass` says.
     pub fn probes(&self) -> &Probes
         ensures { result.now ≡ self.now.probes }

@@ -47,7 +47,7 @@ impl Model for Trail {
 }
 
 impl Trail {
-    /// What is known before a file was looked at but the main file, of which this is the path.
+    /// What is known before a file was asked about but the main file, of which this is the path.
     pub(crate) fn new(alloc: Global, memory: Memory, main: &Path) -> Result<Trail, NoMemory>
         ensures { IfOk result (λ t. t ≡ record { memo = memory; rows = []; count = 0; probes = main.now ∷ [] }) }
     {
@@ -119,7 +119,7 @@ impl Trail {
         self.memory.is_read_once(path)
     }
 
-    /// Looks for a header. The paths that are looked at are known from then on.
+    /// Looks for a header. The paths that it asks about are known from then on.
     pub(crate) fn search<F: Files>(
         &mut self,
         alloc: Global,
@@ -151,7 +151,7 @@ impl Trail {
         }
     }
 
-    /// The place of a path, if it was looked at.
+    /// The place of a path, if it was asked about.
     pub(crate) fn place_of(&self, path: &Path) -> Option<usize>
         ensures { MatchOption result (has_path self.now.probes path.now ≡ false)
             (λ place. (position_or_len (bytes_eq path.now) self.now.probes ≡ place)

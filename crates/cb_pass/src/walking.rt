@@ -25,7 +25,7 @@ use cb_tree::Tree;
 use std::alloc::Global;
 
 /// The pass of a command over files. The meter rises by the number of the nodes that it reaches. The main file stands
-/// first among the paths that it looks at. Its one error is being out of memory; the meter is then as it was.
+/// first among the paths that it asks about. Its one error is being out of memory; the meter is then as it was.
 ///
 /// Over any other files that agree with these on the probes, in absence or in skeleton, the pass is the same.
 pub fn pass<F: Files>(

@@ -25,7 +25,7 @@ abbrev pub behind_first : List Bone → List Bone
 behind_first [] = []
 behind_first (b ∷ bs) = bs
 
--- a file that is being read, and the place of its path among the paths that were looked at, from 0
+-- a file that is being read, and the place of its path among the paths that were asked about, from 0
 pub record Opened : Type 0 where
   pub frame : Frame
   pub place : ℕ
@@ -41,7 +41,7 @@ ArePlaced paths (o ∷ os) =
     (position_or_len (bytes_eq o.frame.path) paths ≡ o.place) × (o.place < length paths) × ArePlaced paths os
 
 -- what a pass found: the macros, the files that are read once and the notes; the sets of nodes by the places of their
--- paths; how many nodes were reached; and the paths that were looked at
+-- paths; how many nodes were reached; and the paths that were asked about
 pub record Findings : Type 0 where
   pub memo : Memo
   pub rows : List (List ℕ)
