@@ -64,22 +64,22 @@ abbrev pub refusal_text : AnalysisFault → List ℕ
 refusal_text (Bad bad) = bad_text bad
 refusal_text NoMemory = codes "out of memory"
 
--- the first fault of a list of possible ones
+-- the first fault of a list of possible ones (own)
 abbrev pub first_of : List (Option BadAnalysis) → Option BadAnalysis
 first_of [] = None
 first_of (None ∷ faults) = first_of faults
 first_of (Some bad ∷ faults) = Some bad
 
--- a fault of this kind at this place, unless a test holds
+-- a fault of this kind at this place, unless a test holds (own)
 abbrev pub unless : Bool → AnalysisKind → List ℕ → Option BadAnalysis
 unless true kind place = None
 unless false kind place = Some (record { kind = kind; place = place })
 
--- the place of a platform, or of a key in it
+-- the place of a platform, or of a key in it (own)
 abbrev pub in_platform : List ℕ → List ℕ → List ℕ
 in_platform name key = codes "platform." ++ name ++ key
 
--- the place of a pattern of a list, by its number from 0
+-- the place of a pattern of a list, by its number from 0 (own)
 abbrev pub in_list : List ℕ → ℕ → List ℕ
 in_list place at = place ++ codes "." ++ decimal at
 
@@ -91,7 +91,7 @@ commands_text d = option_and_then as_str (get (codes "commands") d)
 abbrev pub commands_path : Data → Option (List ℕ)
 commands_path d = option_and_then path_of (commands_text d)
 
--- the faults of a platform
+-- the faults of a platform (own)
 abbrev pub platform_faults : List ℕ × Data → List (Option BadAnalysis)
 platform_faults (name, d) =
     unless (is_name name) BadName (in_platform name [])
@@ -101,7 +101,7 @@ platform_faults (name, d) =
     ∷ unless (is_some (commands_path d)) BadPath (in_platform name (codes ".commands"))
     ∷ []
 
--- the faults of the platforms: first those of their table, then those of each by the bytes of the names
+-- the faults of the platforms: first those of their table, then those of each by the bytes of the names (own)
 abbrev pub platforms_faults : Members → List (Option BadAnalysis)
 platforms_faults t =
     unless (is_absent_or is_table (platform_at t)) WrongType (codes "platform")
@@ -109,18 +109,18 @@ platforms_faults t =
     ∷ unless (nat_le (length (entries_in (platform_at t))) 32) TooMany (codes "platform")
     ∷ flat_map platform_faults (entries_in (platform_at t))
 
--- the faults of patterns, of which the first has this number
+-- the faults of patterns, of which the first has this number (own)
 abbrev pub pattern_faults : List ℕ → ℕ → List (List ℕ) → List (Option BadAnalysis)
 pattern_faults place at texts = map (λ (n, text). unless (is_pattern text) BadPattern (in_list place n)) (enumerate_from at texts)
 
--- the faults of a list of patterns
+-- the faults of a list of patterns (own)
 abbrev pub list_faults : List ℕ → Option Data → List (Option BadAnalysis)
 list_faults place value =
     unless (is_absent_or is_text_list value) WrongType place
     ∷ unless (nat_le (length (texts_in value)) 1000) TooMany place
     ∷ pattern_faults place 0 (texts_in value)
 
--- the faults of the table `codebase`
+-- the faults of the table `codebase` (own)
 abbrev pub codebase_faults : Option Data → List (Option BadAnalysis)
 codebase_faults codebase =
     unless (is_absent_or is_table codebase) WrongType (codes "codebase")
@@ -128,11 +128,11 @@ codebase_faults codebase =
     ∷ (list_faults (codes "codebase.exclude") (at_key (codes "exclude") codebase)
     ++ list_faults (codes "codebase.skip") (at_key (codes "skip") codebase))
 
--- all faults of an analysis
+-- all faults of an analysis (own)
 abbrev pub faults_of : Members → List (Option BadAnalysis)
 faults_of t = platforms_faults t ++ codebase_faults (codebase_at t)
 
--- a refusal for another cause than memory gives this fault
+-- a refusal for another cause than memory gives this fault (own)
 abbrev pub Tells : AnalysisFault → Option BadAnalysis → Type 0
 Tells (Bad bad) fault = fault ≡ Some bad
 Tells NoMemory fault = Unit {0}

@@ -1,15 +1,15 @@
--- What stands where in the table of an analysis, which is a table of TOML 1.0.
+-- What stands where in the table of an analysis, which is a table of TOML 1.1.
 use Rattle.std.specs.Prelude.{ℕ, Bool, true, false, List, [], ◌∷◌, Option, is_some, codes, option_and_then}
 use Rattle.std.specs.List.{list_all, filter_map}
 use Rattle.std.specs.Option.{option_map_or}
 use Rattle.toml.specs.Data.{Data, Items, no_items, item, Members, no_members, member, get, get_member, as_str, as_array, as_table}
 
--- the items of a list in order (TOML 1.0, "Array")
+-- the items of a list in order (TOML 1.1, "Array")
 abbrev pub list_of : Items → List Data
 list_of no_items = []
 list_of (item d ds) = d ∷ list_of ds
 
--- the keys of a table with their values, by the bytes of the keys (TOML 1.0, "Table", where they have no order)
+-- the keys of a table with their values, by the bytes of the keys (TOML 1.1, "Table", where they have no order)
 abbrev pub entries_of : Members → List (List ℕ × Data)
 entries_of no_members = []
 entries_of (member key d ms) = (key, d) ∷ entries_of ms
@@ -18,11 +18,11 @@ entries_of (member key d ms) = (key, d) ∷ entries_of ms
 abbrev pub at_key : List ℕ → Option Data → Option Data
 at_key key value = option_and_then (get key) value
 
--- a value is a text (TOML 1.0, "String")
+-- a value is a text (TOML 1.1, "String")
 abbrev pub is_text : Data → Bool
 is_text d = is_some (as_str d)
 
--- a value is a table (TOML 1.0, "Table")
+-- a value is a table (TOML 1.1, "Table")
 abbrev pub is_table : Data → Bool
 is_table d = is_some (as_table d)
 

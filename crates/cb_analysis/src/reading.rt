@@ -107,8 +107,8 @@ fn refusal(error: &Error) -> AnalysisFault
     })
 }
 
-/// Reads an analysis file. It answers what the file says, or its first fault, or that memory ran out. The length of
-/// the file is not looked at.
+/// Reads an analysis file. It answers what the file says, or its first fault; its other error is out of memory. The
+/// length of the file is not looked at.
 pub fn read(alloc: Global, bytes: &[u8]) -> Result<Analysis, AnalysisFault>
     ensures contents { IfOk result (λ a. analysis bytes.now ≡ Ok a) }
     ensures bad { IfErr result (λ e. Refuses e (analysis bytes.now)) }

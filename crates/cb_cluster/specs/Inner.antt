@@ -16,12 +16,15 @@ within_rank names l = if left_name names l == right_name names l then 1 else 0
 abbrev pub by_rank : List ℕ → Link → Link → Bool
 by_rank names a b = nat_lt (within_rank names a) (within_rank names b)
 
+-- closer links first (own)
 abbrev pub by_distance : Link → Link → Bool
 by_distance a b = is_less a.distance b.distance
 
+-- links with the lesser name of the left cluster first (own)
 abbrev pub by_left : List ℕ → Link → Link → Bool
 by_left names a b = nat_lt (left_name names a) (left_name names b)
 
+-- links with the lesser name of the right cluster first (own)
 abbrev pub by_right : List ℕ → Link → Link → Bool
 by_right names a b = nat_lt (right_name names a) (right_name names b)
 

@@ -16,7 +16,7 @@ pub fn pair_count(count: u32) -> u64
 }
 
 /// All pairs of so many platforms with their distances, which stand in the order (1, 2), (1, 3), .., (2, 3), and so on. Its
-/// one error is want of memory.
+/// one error is out of memory.
 pub fn links(alloc: Global, count: u32, pairs: &[Fraction]) -> Result<Vec<Link>, NoMemory>
     requires { length pairs.now ≡ length (pairs_of count) }
     ensures links { IfOk result (λ links. links.items ≡ links_of count pairs.now) }

@@ -18,7 +18,7 @@ use std::alloc::Global;
 
 /// The merges of so many platforms, from the distances of all pairs in the order (1, 2), (1, 3), .., (2, 3), and so on. Again
 /// and again the closest two clusters are joined, and of equally close ones those with the least members, of the left one
-/// first. For one platform or none there is no merge. Its one error is want of memory.
+/// first. For one platform or none there is no merge. Its one error is out of memory.
 pub fn merges(alloc: Global, count: u32, pairs: &[Fraction]) -> Result<Merges, NoMemory>
     requires { length pairs.now ≡ length (pairs_of count) }
     ensures { IfOk result (λ merges. AreMerges (links_of count pairs.now) (singles_of count) merges) }
@@ -51,7 +51,7 @@ fn merge_of(alloc: Global, names: &[u32], next: ClosestPair) -> Result<Merge, No
 
 /// The classes of so many platforms at a height, by their least members: two platforms are in one class where a chain of
 /// distances of at most the height leads from one to the other. The distances stand as for the merges. For one platform there
-/// is one class, and for none there is none. Its one error is want of memory.
+/// is one class, and for none there is none. Its one error is out of memory.
 pub fn cut(alloc: Global, count: u32, pairs: &[Fraction], h: Fraction) -> Result<Classes, NoMemory>
     requires { length pairs.now ≡ length (pairs_of count) }
     ensures { IfOk result (λ classes. AreClasses (links_of count pairs.now) count h classes) }

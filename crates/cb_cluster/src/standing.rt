@@ -42,7 +42,7 @@ fn join_merges(names: &mut [u32], merges: &[Merge], h: Fraction)
 
 /// The classes that stand after the merges of at most a height, by their least members, where so many platforms have these
 /// merges. They are those of `cut` at that height, and are found without another look at the distances. Its one error is
-/// want of memory.
+/// out of memory.
 pub fn classes_after(
     alloc: Global,
     count: u32,

@@ -32,7 +32,7 @@ step_at rows problem application platforms k = record {
   portability = portability_over rows problem application (take (k + 1) platforms);
 }
 
--- the cascade of an application over the platforms of a problem
+-- the cascade of an application over the platforms of a problem (own, after Pennycook, Sewall and Lee)
 unfoldable pub cascade_of : List Row → List ℕ → List ℕ → List Step
 cascade_of rows problem application =
     map (step_at rows problem application (falling rows problem application)) (range_with_len 0 (length (falling rows problem application)))

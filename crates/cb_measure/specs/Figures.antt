@@ -27,7 +27,7 @@ unfoldable pub figure_of : List ℕ → List ℕ → Option ℕ
 figure_of whole rest =
     option_and_then (λ units. if length rest == 0 then Some (units * 1000000) else with_fraction units (drop 1 rest)) (counted_digits 9 whole)
 
--- not the byte `.`
+-- not the byte `.` (own)
 abbrev pub is_no_point : ℕ → Bool
 is_no_point byte = not (byte == 46)
 

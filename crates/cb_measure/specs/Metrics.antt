@@ -6,15 +6,15 @@ use Rattle.cb_paths.specs.Grid.{units}
 use Rattle.cb_measure.specs.Names.{names_of}
 use Rattle.cb_measure.specs.declared.row.Row.{Row}
 
--- the row is of this problem
+-- the row is of this problem (own)
 abbrev pub of_problem : List ℕ → Row → Bool
 of_problem problem row = bytes_eq row.problem problem
 
--- the row is of this problem on this platform
+-- the row is of this problem on this platform (own)
 abbrev pub of_place : List ℕ → List ℕ → Row → Bool
 of_place problem platform row = bytes_eq row.problem problem && bytes_eq row.platform platform
 
--- the row is a run of this application for this problem on this platform
+-- the row is a run of this application for this problem on this platform (own)
 abbrev pub of_run : List ℕ → List ℕ → List ℕ → Row → Bool
 of_run problem application platform row = of_place problem platform row && bytes_eq row.application application
 
@@ -47,16 +47,17 @@ unfoldable pub best_on : List Row → List ℕ → List ℕ → ℕ
 best_on rows problem platform = least (filter (of_place problem platform) rows)
 
 -- the efficiency of an application on a platform, where it does not fail there: the best figure over its own, on the grid
+-- (Pennycook, Sewall and Lee; the grid is own)
 unfoldable pub efficiency_of : List Row → List ℕ → List ℕ → List ℕ → Option ℕ
 efficiency_of rows problem application platform =
     if figure_on rows problem application platform == 0 then None
     else Some (best_on rows problem platform * units / figure_on rows problem application platform)
 
--- how many times longer than the best an application takes on a platform, on the grid
+-- how many times longer than the best an application takes on a platform, on the grid (own)
 unfoldable pub slowness : List Row → List ℕ → List ℕ → List ℕ → ℕ
 slowness rows problem application platform = figure_on rows problem application platform * units / best_on rows problem platform
 
--- an application fails on some of these platforms
+-- an application fails on some of these platforms (own)
 unfoldable pub fails_on : List Row → List ℕ → List ℕ → List (List ℕ) → Bool
 fails_on rows problem application platforms = list_any (λ platform. figure_on rows problem application platform == 0) platforms
 
@@ -67,6 +68,6 @@ portability_over rows problem application platforms =
     if fails_on rows problem application platforms || (length platforms == 0) then 0
     else length platforms * 10 ^ 24 / sum_by (slowness rows problem application) platforms
 
--- the portability of an application for a problem
+-- the portability of an application for a problem (Pennycook, Sewall and Lee)
 abbrev pub portability_of : List Row → List ℕ → List ℕ → ℕ
 portability_of rows problem application = portability_over rows problem application (platforms_of rows problem)

@@ -10,11 +10,11 @@ use Rattle.cb_measure.specs.declared.row.Row.{Row}
 use Rattle.cb_measure.specs.declared.bad_csv.BadCsv.{BadCsv}
 use Rattle.cb_measure.specs.declared.bad_csv.BadCsv.TheVariants.{Header, Fields, Fom, Name, TooMany}
 
--- the field of a record in this column
+-- the field of a record in this column (own)
 abbrev pub field_of : List (List ℕ) → ℕ → List ℕ
 field_of record' column = slice_index_or record' column []
 
--- the platforms of rows, as often as they stand there
+-- the platforms of rows, as often as they stand there (own)
 abbrev pub platforms_in : List Row → List (List ℕ)
 platforms_in rows = map (λ (row : Row). row.platform) rows
 
@@ -39,7 +39,7 @@ row_of columns before record' =
     else row_of_fields before (length before + 2) (field_of record' columns.problem) (field_of record' columns.platform)
     (field_of record' columns.application) (field_of record' columns.fom)
 
--- what follows a row, where there is no fault
+-- what follows a row, where there is no fault (own)
 abbrev pub and_then : {A B : Type 0} → Result A BadCsv → (A → Result B BadCsv) → Result B BadCsv
 and_then (Ok x) f = f x
 and_then (Err e) f = Err e
@@ -49,7 +49,7 @@ unfoldable pub rows_of : Columns → List Row → List (List (List ℕ)) → Res
 rows_of columns before [] = Ok before
 rows_of columns before (record' ∷ records') = and_then (row_of columns before record') (λ row. rows_of columns (before ++ row ∷ []) records')
 
--- the rows behind a header, where its columns are known
+-- the rows behind a header, where its columns are known (own)
 abbrev pub rows_under : Option Columns → List (List (List ℕ)) → Result (List Row) BadCsv
 rows_under None records' = Err Header
 rows_under (Some columns) records' = rows_of columns [] records'

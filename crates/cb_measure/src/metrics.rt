@@ -99,7 +99,7 @@ impl Rows {
     }
 
     /// The efficiency of an application for a problem on a platform, in units of the grid (10^-12): the best figure
-    /// of all applications over its own. There is none exactly where the application fails there.
+    /// of all applications over its own, rounded down. There is none exactly where the application fails there.
     #[tactic(auto, unfolding(crate::specs::Metrics::efficiency_of))]
     pub fn efficiency(&self, problem: &[u8], application: &[u8], platform: &[u8]) -> Option<u64>
         ensures { result ≡ efficiency_of self.now problem.now application.now platform.now }
@@ -108,8 +108,8 @@ impl Rows {
     }
 
     /// The performance portability of an application for a problem, in units of the grid (10^-12): the harmonic mean
-    /// of its efficiencies on all platforms that occur in a row of the problem. It is 0 where the application fails
-    /// on one of them, and where there is none.
+    /// of its efficiencies on all platforms that occur in a row of the problem, each reciprocal rounded down to the
+    /// grid, and the mean too. It is 0 where the application fails on one of them, and where there is none.
     pub fn portability(&self, problem: &[u8], application: &[u8]) -> u64
         ensures { result ≡ portability_of self.now problem.now application.now }
     {

@@ -68,7 +68,7 @@ impl Rows {
 }
 
 /// Reads a file of measurements: CSV with a header, in which the columns `problem`, `platform`, `application` and
-/// `fom` stand in any order. It answers the rows of the file, or its first fault, or that memory ran out.
+/// `fom` stand in any order. It answers the rows of the file, or its first fault; its other error is out of memory.
 pub fn read(alloc: Global, bytes: &[u8]) -> Result<Rows, CsvFault>
     ensures rows { IfOk result (λ rows. measurements bytes.now ≡ Ok rows) }
     ensures bad { (fault : BadCsv) → result ≡ Err (CsvFault.Bad fault) → measurements bytes.now ≡ Err fault }
