@@ -188,7 +188,7 @@ fn command_of(
 /// What an entry makes, where `root` is the path that the top has in the database: `Outside` exactly where the
 /// directory, read from the root, is no folder, or the file, read from the directory, is no path below the root; else
 /// `Unsupported` exactly where the file is in no language that is preprocessed; else the command that its words give.
-/// It answers that or that memory ran out.
+/// Its one error is out of memory.
 #[tactic(auto, unfolding(crate::specs::Commands::made_of))]
 pub fn command(alloc: Global, entry: &Entry, root: &Dir) -> Result<Made, NoMemory>
     ensures { IfOk result (λ made. made ≡ made_of entry.now root.now) }

@@ -170,7 +170,7 @@ fn refusal(error: &Error) -> DatabaseFault
 
 /// Reads a compilation database: a JSON array of at most 20,000 objects, each with the texts `directory` and `file`,
 /// and with `arguments`, an array of texts, or else `command`, a text that is split into words. It answers the entries
-/// in their order, or the first fault of the file, or that memory ran out.
+/// in their order, or the first fault of the file; its other error is out of memory.
 pub fn read(alloc: Global, bytes: &[u8]) -> Result<Entries, DatabaseFault>
     ensures entries { IfOk result (IsDatabase bytes.now) }
     ensures fault { IfErr result (λ fault. Tells fault bytes.now) }

@@ -9,8 +9,8 @@ ghost use Rattle.cb_cond.specs.Symbols.{symbols};
 ghost use Rattle.cb_cond.specs.Faults.{IsAnswer};
 ghost use Rattle.cb_cond.specs.declared.symbol.Symbol.TheVariants as Symbol;
 
-/// A condition has one syntax tree at most, and one answer. Each integer of the grammar is read with its value, and nothing else is
-/// read as one.
+/// A condition has at most one syntax tree, and at most one answer. Each integer of the grammar is read with its value, and nothing
+/// else is read as one.
 #[tactic(auto, using(crate::proofs::Unique::exact))]
 pub fn one_condition()
     ensures expression { (language : Tongue) (tokens : List Token) (a b : Expression)

@@ -38,7 +38,7 @@ impl Fractions {
         Fractions { items }
     }
 
-    /// Adds a fraction at the end. Its one error is want of memory, after which nothing has changed.
+    /// Adds a fraction at the end. Its one error is out of memory, after which nothing has changed.
     pub fn push(&mut self, fraction: Fraction) -> Result<(), NoMemory>
         ensures ok { OnOk result (self.new ≡ self.old ++ fraction ∷ []) }
         ensures unchanged { OnErr result (self.new ≡ self.old) }

@@ -12,11 +12,12 @@ use Rattle.cb_macro.specs.Definitions.{Definition, defines, undefines}
 abbrev pub first_line : List ℕ → List ℕ
 first_line word = before_first (λ b. b == 10) word
 
--- a name with the value behind its first =, which a space stands for; without =, the value is 1 (GCC manual, 3.13, -D)
+-- a name with the value behind its first =, which a space stands for; without =, the value is 1
+-- (GCC's manual, "Options Controlling the Preprocessor", -D)
 abbrev pub with_value : List ℕ → List ℕ
 with_value text = option_map_or (λ n. take n text ++ 32 ∷ drop (n + 1) text) (position (λ b. b == 61) text) (text ++ 32 ∷ 49 ∷ [])
 
--- what follows define for a word after -D (GCC manual, 3.13, -D)
+-- what follows define for a word after -D (GCC's manual, "Options Controlling the Preprocessor", -D)
 unfoldable pub definition_text : List ℕ → List ℕ
 definition_text word = with_value (first_line word)
 
@@ -30,12 +31,14 @@ abbrev pub first_tokens : List Line → List Token
 first_tokens [] = []
 first_tokens (l ∷ ls) = l.tokens
 
--- a word after -D defines this, or nothing: its text's tokens are read as those behind #define (GCC manual, 3.13, -D)
+-- a word after -D defines this, or nothing: its text's tokens are read as those behind #define
+-- (GCC's manual, "Options Controlling the Preprocessor", -D)
 abbrev pub WordDefines : List ℕ → Option (List ℕ × Definition) → Type 0
 WordDefines word defined =
     (lines : Option (List Line)) × AreLogicalLines (definition_text word) lines × (defined ≡ option_and_then (λ ls. defines (first_tokens ls)) lines)
 
--- a word after -U undefines this name, or none: its tokens are read as those behind #undef (GCC manual, 3.13, -U)
+-- a word after -U undefines this name, or none: its tokens are read as those behind #undef
+-- (GCC's manual, "Options Controlling the Preprocessor", -U)
 abbrev pub WordUndefines : List ℕ → Option (List ℕ) → Type 0
 WordUndefines word name =
     (lines : Option (List Line)) × AreLogicalLines (first_line word) lines × (name ≡ option_and_then (λ ls. undefines (first_tokens ls)) lines)

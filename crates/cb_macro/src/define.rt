@@ -105,9 +105,9 @@ fn macro_of(alloc: Global, tokens: &[Token]) -> Result<Macro, DefineFault>
 /// What the tokens after `define` define.
 ///
 /// `Bad` comes exactly where they are no definition: the name is missing, or is `defined` or `__VA_ARGS__`; the list
-/// of parameters is malformed; `##` stands first or last in the replacement list; a `#` in a function-like macro has
-/// no parameter behind it; or `__VA_ARGS__` stands in the replacement list of a macro without `...`. Where memory is
-/// wanting it may be `NoMemory`. It takes time in proportion to the tokens' bytes.
+/// of parameters is malformed, names one twice or names `__VA_ARGS__`; `##` stands first or last in the replacement
+/// list; a `#` in a function-like macro has no parameter behind it; or `__VA_ARGS__` stands in the replacement list of
+/// a macro without `...`. Its other error is out of memory. It takes time in proportion to the tokens' bytes.
 #[tactic(auto, unfolding(crate::specs::Definitions::defines))]
 pub fn read_define(alloc: Global, tokens: &[Token]) -> Result<Defined, DefineFault>
     ensures defined { IfOk result (λ defined. defines tokens.now ≡ Some (defined.name, defined.body)) }

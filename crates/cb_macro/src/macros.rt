@@ -37,8 +37,8 @@ impl Macros {
         }
     }
 
-    /// Defines a name, and answers whether a different definition stood. Where memory runs out it is `NoMemory`, and
-    /// nothing has changed.
+    /// Defines a name, and answers whether a different definition stood. Its one error is out of memory, after
+    /// which nothing has changed.
     pub fn define(&mut self, alloc: Global, defined: Defined) -> Result<bool, NoMemory>
         ensures different { IfOk result (λ different. IsChange (found self.old defined.name) defined.body different) }
         ensures defined { OnOk result ((name : List ℕ) → found self.new name ≡ (if bytes_eq name defined.name then Some defined.body else found self.old name)) }

@@ -76,8 +76,8 @@ fn tokens_of_first(lexed: &Lexed) -> &[Token]
 /// none a space and `1` stand behind it; the tokens of that text are read as those behind `#define`. So `-DA` defines
 /// `A` as `1`, and `-DA=` as nothing.
 ///
-/// `Bad` comes exactly where they are no definition, or where a block comment in the text has no end. Where memory is
-/// wanting it may be `NoMemory`.
+/// `Bad` comes exactly where they are no definition, or where a block comment in the text has no end. Its other
+/// error is out of memory.
 pub fn define_word(alloc: Global, word: &[u8]) -> Result<Defined, DefineFault>
     ensures defined { IfOk result (λ defined. WordDefines word.now (Some (defined.name, defined.body))) }
     ensures bad { result ≡ Err DefineFault.Bad → WordDefines word.now None }

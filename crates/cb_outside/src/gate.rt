@@ -1,6 +1,6 @@
-//! What is told when the pass of a command begins.
+//! What may be told when the pass of a command begins.
 
-/// What is told of each command before its pass begins. Passes may run in several threads, so it is shared by them.
+/// What may be told of each command before its pass begins; it can be shared by threads.
 pub trait Gate: Sync {
     /// The pass of the command of this number begins.
     fn enter(&self, command: u32);

@@ -21,7 +21,7 @@ pub trait Keeper {
     /// How many calls have failed. It never falls.
     ghost faults: { Self → ℕ };
 
-    /// How many removals were refused for want of memory. It never falls.
+    /// How many removals were refused as out of memory. It never falls.
     ghost wants: { Self → ℕ };
 
     /// Keeps these bytes in a table at a key, in place of those that stood there.

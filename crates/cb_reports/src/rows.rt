@@ -53,7 +53,7 @@ pub struct NoteRow {
     /// The line of the node.
     pub line: u32,
     /// The number of the kind of note, from 1 to 10: Missing, BadInclude, BadDefine, Redefined, BadCondition, TooLong, TooDeep,
-    /// Budget, ErrorReached, NoMain.
+    /// Budget, ErrorReached, NoMain; any other number prints as NoMain.
     pub kind: u32,
     /// What the note is about.
     pub detail: Bytes,

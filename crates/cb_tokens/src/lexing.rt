@@ -15,8 +15,8 @@ use cb_paths::Bytes;
 use std::alloc::Global;
 
 /// The logical lines of a source, with their tokens and counted lines. Where a block comment has no end it is
-/// `OpenComment` with the line where that comment begins; where memory is wanting it may be `NoMemory`. It takes time in
-/// proportion to the bytes.
+/// `OpenComment` with the line where that comment begins; its other error is out of memory. It takes time in proportion
+/// to the bytes.
 pub fn tokens(alloc: Global, source: &[u8]) -> Result<Lexed, LexFault>
     ensures lines { IfOk result (λ lexed. AreLinesOf (marks_of source.now) lexed) }
     ensures open_comment { (line : ℕ) → result ≡ Err (LexFault.OpenComment line) → HasOpenComment (marks_of source.now) line }

@@ -185,9 +185,9 @@ fn tokens_over(bytes: &[u8], from: usize, over: usize, end: usize) -> usize
     at
 }
 
-/// The bytes at the front up to a place that no piece goes over, among the first so many: a line end, the begin of a comment, or else
-/// the begin of the first token that does not end among them. It goes past quotes, and past slashes that begin no comment; at least
-/// it goes to each end of white space up to which no byte is a line end, a quote or a slash.
+/// The bytes at the front, among the first so many, that are cut into a token and then white space and tokens alone. Where no white
+/// space stands first, it goes at least to each end of white space up to which no byte is a line end, a quote or a slash, and to the
+/// line end at which the look ends, if one does; how much further it goes, no clause says.
 pub fn plain_stretch(bytes: &[u8], end: usize) -> Stretch
     requires { end ≤ length bytes.now }
     ensures seen { result.seen < end → is_quiet (slice_index bytes.now result.seen) ≡ false }

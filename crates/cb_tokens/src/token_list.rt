@@ -45,7 +45,7 @@ impl Tokens {
         self.items
     }
 
-    /// Puts a token behind the others. Where memory runs out it is `NoMemory`, and the list is as it was.
+    /// Puts a token behind the others. Its one error is out of memory, after which the list is as it was.
     pub fn push(&mut self, token: Token) -> Result<(), NoMemory>
         ensures added { OnOk result (self.new ≡ self.old ++ token ∷ []) }
         ensures kept { OnErr result (self.new ≡ self.old) }

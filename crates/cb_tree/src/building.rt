@@ -33,7 +33,7 @@ fn read_source(alloc: Global, source: &[u8]) -> Result<Nodes, BuildFault>
     Ok(nodes)
 }
 
-/// The tree of a sound source. Else it is `Bad` with the first fault; where memory runs out it is `NoMemory`.
+/// The tree of a sound source. Else it is `Bad` with the first fault; its other error is out of memory.
 pub fn build(alloc: Global, source: &[u8]) -> Result<Tree, BuildFault>
     ensures nodes { IfOk result (λ tree. IsRead source.now (Sound tree)) }
     ensures fault { (f : Fault) → result ≡ Err (BuildFault.Bad f) → IsRead source.now (Unsound f) }

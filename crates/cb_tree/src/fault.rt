@@ -7,7 +7,7 @@ use itoa::Buffer;
 use std::alloc::{AllocError, AllocFailed};
 use thiserror::Error;
 
-/// What makes a source unsound. The numbers of the kinds are those of the reports.
+/// What makes a source unsound. The numbers and names of the kinds are those of the texts.
 #[derive(Clone, Copy, Debug, PartialEq, Eq, Error)]
 pub enum SourceKind {
     /// A block comment has no end; the line where it begins.
@@ -89,7 +89,8 @@ pub struct BadSource {
 }
 
 impl BadSource {
-    /// Adds its text, `bad source NUMBER NAME line LINE`, to another.
+    /// Adds its text, `bad source NUMBER NAME line LINE`, to another. Its one error is out of memory, after which the text may
+    /// hold a part of it.
     pub fn push_text(&self, text: &mut Vec<u8>) -> Result<(), NoMemory>
         ensures { OnOk result (text.new.items ≡ text.old.items ++ fault_text self.now) }
     {

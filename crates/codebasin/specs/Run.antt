@@ -1,4 +1,4 @@
--- What a run finds, says and leaves. One constructor of `Says` for each row of the table of statuses.
+-- What a run finds, says and leaves. One constructor of `Says` for each of the statuses 0 to 4.
 use Rattle.std.specs.Prelude.{◌≡◌, ℕ, ◌<◌, ◌≤◌, List, length, take, Option, IfSome}
 use Rattle.std.specs.Io.KnownBytes.{Appends, Consumes, Keeps}
 use Rattle.cb_outside.specs.Outside.{Rose}

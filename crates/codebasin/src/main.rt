@@ -1,4 +1,4 @@
-//! `codebasin`: which lines of C and C++ code each platform uses.
+//! `codebasin`: which lines of a C source a platform reaches.
 #![tactic(auto)]
 
 mod answering;
