@@ -1,9 +1,9 @@
 -- The last piece of a text.
 use Rattle.std.proofs.Common.{◌≡◌, ℕ, ◌==◌, Bool, true, false, List, [], ◌∷◌, ◌++◌, refl, sym, ap, ◌∙◌, Option, Some, None, IfSome, IfNone}
-use Rattle.std.specs.Prelude.{is_some}
+use Rattle.std.specs.Prelude.{is_some, drop, unwrap_or}
 use Rattle.std.specs.Borrow.{Bor}
 use Rattle.std.specs.List.{last_or, slice_split, onto_first}
-use Rattle.cb_paths.specs.Languages.{last_behind, behind_last}
+use Rattle.cb_paths.specs.Languages.{behind_last}
 use Rattle.cb_paths.proofs.Splitting.{lacks, split_none, split_at}
 
 -- the last piece of what is left, if anything is
@@ -33,8 +33,8 @@ last_step byte text part behind h e =
 
 pub last_first : (byte : ℕ) (text part : List ℕ) (rest : Option (Bor (List ℕ))) → lacks byte part ≡ true
     → IfSome rest (λ r. text ≡ part ++ (byte ∷ r.now)) → IfNone rest (text ≡ part) → last_left byte rest ≡ behind_last byte text
-last_first byte text part None h s n = sym (ap (λ xs. last_behind (slice_split (λ b. b == byte) xs)) n ∙ ap last_behind (split_none byte part h))
-last_first byte text part (Some r) h s n = sym (ap (λ xs. last_behind (slice_split (λ b. b == byte) xs)) s ∙ ap last_behind (split_at byte part r.now h))
+last_first byte text part None h s n = sym (ap (behind_last byte) n ∙ ap (λ ps. last_or None (drop 1 ps)) (split_none byte part h))
+last_first byte text part (Some r) h s n = sym (ap (behind_last byte) s ∙ ap (λ ps. last_or None (drop 1 ps)) (split_at byte part r.now h))
 
 -- a text without such a byte is its own last piece
 pub last_whole : (byte : ℕ) (text part : List ℕ) → lacks byte part ≡ true → text ≡ part → last_or None (slice_split (λ b. b == byte) text) ≡ Some text
@@ -49,3 +49,29 @@ pub last_here : (byte : ℕ) (text part : List ℕ) (rest : Option (Bor (List �
     → last_or None (slice_split (λ b. b == byte) text) ≡ Some text
 last_here byte text part None none' h w = last_whole byte text part h w
 last_here byte text part (Some r) none' h w = cc
+
+any_other : (o : Option (List ℕ)) (some other : List ℕ) → o ≡ Some (unwrap_or o some) → o ≡ Some (unwrap_or o other)
+any_other None some other h = cc
+any_other (Some x) some other h = refl
+
+piece_found : (o : Option (List ℕ)) (some other : List ℕ) → o ≡ Some some → o ≡ Some (unwrap_or o other)
+piece_found None some other h = cc
+piece_found (Some x) some other h = refl
+
+piece_more : (x : ℕ) (xs : List ℕ) (parts : List (List ℕ)) → last_or None parts ≡ Some (unwrap_or (last_or None (drop 1 parts)) xs)
+    → last_or None (onto_first x parts) ≡ Some (unwrap_or (last_or None (drop 1 (onto_first x parts))) (x ∷ xs))
+piece_more x xs [] h = cc
+piece_more x xs (p ∷ []) h = cc
+piece_more x xs (p ∷ q ∷ ps) h = any_other (last_or (Some q) ps) xs (x ∷ xs) h
+
+piece_at : (byte x : ℕ) (xs : List ℕ) (t : Bool) → (x == byte) ≡ t
+    → last_or None (slice_split (λ b. b == byte) xs) ≡ Some (unwrap_or (behind_last byte xs) xs)
+    → last_or None (slice_split (λ b. b == byte) (x ∷ xs)) ≡ Some (unwrap_or (behind_last byte (x ∷ xs)) (x ∷ xs))
+piece_at byte x xs true e h =
+    rw e (last_any byte (Some []) xs ∙ piece_found (last_or None (slice_split (λ b. b == byte) xs)) (unwrap_or (behind_last byte xs) xs) (x ∷ xs) h)
+piece_at byte x xs false e h = rw e (piece_more x xs (slice_split (λ b. b == byte) xs) h)
+
+-- the last piece of a text is what stands behind the last such byte, or the text
+pub last_piece : (byte : ℕ) (text : List ℕ) → last_or None (slice_split (λ b. b == byte) text) ≡ Some (unwrap_or (behind_last byte text) text)
+last_piece byte [] = refl
+last_piece byte (x ∷ xs) = piece_at byte x xs (x == byte) refl (last_piece byte xs)

@@ -1,17 +1,12 @@
 -- The language of a source by the name of its file.
-use Rattle.std.specs.Prelude.{ℕ, ◌==◌, if◌then◌else◌, Bool, List, [], ◌∷◌, bytes_eq, codes, Option, Some, None}
+use Rattle.std.specs.Prelude.{ℕ, ◌==◌, if◌then◌else◌, Bool, List, [], ◌∷◌, drop, bytes_eq, codes, Option, Some, None, option_and_then}
 use Rattle.std.specs.List.{list_any, last_or, slice_split}
 use Rattle.cb_paths.specs.declared.language.Language.{Language}
 use Rattle.cb_paths.specs.declared.language.Language.TheVariants.{C, Cxx}
 
--- the last of the pieces behind the first one (own)
-abbrev pub last_behind : List (List ℕ) → Option (List ℕ)
-last_behind [] = None
-last_behind (p ∷ ps) = last_or None ps
-
 -- what stands behind the last of such bytes, if there is one (own)
 abbrev pub behind_last : ℕ → List ℕ → Option (List ℕ)
-behind_last byte text = last_behind (slice_split (λ b. b == byte) text)
+behind_last byte text = last_or None (drop 1 (slice_split (λ b. b == byte) text))
 
 -- the suffixes of C++, and of headers, which C++ reads too (GCC's manual, "Overall Options", and own)
 abbrev pub cxx_suffixes : List (List ℕ)
@@ -30,16 +25,7 @@ language_of_suffix suffix =
     if bytes_eq suffix (codes "c") then Some C
     else (if is_cxx suffix then Some Cxx else None)
 
--- that of the suffix, if there is one (own)
-abbrev pub suffix_language : Option (List ℕ) → Option Language
-suffix_language None = None
-suffix_language (Some suffix) = language_of_suffix suffix
-
--- the last part of a path (own)
-abbrev pub last_part : List ℕ → Option (List ℕ) → List ℕ
-last_part path None = path
-last_part path (Some name) = name
-
 -- the language of a path: by what follows the last `.` of its last part (own)
 unfoldable pub language_of : List ℕ → Option Language
-language_of path = suffix_language (behind_last 46 (last_part path (behind_last 47 path)))
+language_of path =
+    option_and_then language_of_suffix (option_and_then (behind_last 46) (last_or None (slice_split (λ b. b == 47) path)))

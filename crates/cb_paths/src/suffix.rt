@@ -1,6 +1,7 @@
 //! The language that the suffix of a path names.
-ghost use Rattle.std.specs.Prelude.{◌≡◌, option_map};
-ghost use Rattle.cb_paths.specs.Languages.{language_of, language_of_suffix, last_part, is_cxx, behind_last};
+ghost use Rattle.std.specs.Prelude.{◌≡◌, ◌==◌, Some, None, option_map};
+ghost use Rattle.std.specs.List.{last_or, slice_split};
+ghost use Rattle.cb_paths.specs.Languages.{language_of, language_of_suffix, is_cxx, behind_last};
 
 use crate::cut::cut;
 use crate::language::Language;
@@ -53,8 +54,9 @@ fn is_cxx(suffix: &[u8]) -> bool
 }
 
 /// The last part of a path.
+#[tactic(auto, using(crate::proofs::Suffixes::last_piece))]
 fn last_part(path: &[u8]) -> &[u8]
-    ensures { result.now ≡ last_part path.now (behind_last 47 path.now) }
+    ensures { last_or None (slice_split (λ b. b == 47) path.now) ≡ Some result.now }
 {
     match behind_last(path, b'/') {
         Some(name) => name,
