@@ -26,6 +26,9 @@ as_few old ts k =
     omega
     (arith, token_count-append old (map as_slot (take k ts)), token_count-append old (map as_slot ts), ap token_count split, token_count-append (map as_slot (take k ts)) (map as_slot (drop k ts)))
 
+pub front_few : (old : List Slot) (t : WorkToken) (ts : List WorkToken) → token_count (old ++ as_slot t ∷ []) ≤ token_count (old ++ map as_slot (t ∷ ts))
+front_few old t ts = omega (arith, token_count-append old (as_slot t ∷ []), token_count-append old (map as_slot (t ∷ ts)))
+
 -- what two sides of ## make, behind what stands
 pub glued_put : {a b : List (List ℕ)} → Extends a b → (front : List Slot) (last slot : Slot) (made : List Slot) → AreSlotsIn (length a) front → map (seen_slot b) made ≡ glue (seen_slot a last) (seen_slot a slot) → map (seen_slot b) (front ++ made) ≡ onto_last (map (seen_slot a) (front ++ last ∷ [])) (seen_slot a slot ∷ [])
 glued_put {a} {b} e front last slot made o is =

@@ -5,6 +5,7 @@ pub mod Standing
 pub mod Spelling
 pub mod Counts
 pub mod Copies
+pub mod Moves
 pub mod Stacks
 pub mod Names
 pub mod Placed

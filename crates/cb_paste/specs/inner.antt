@@ -4,3 +4,4 @@ pub mod Cells
 pub mod Slots
 pub mod Glued
 pub mod Given
+pub mod Uses

@@ -2,9 +2,12 @@
 #![tactic(auto)]
 
 mod argument;
+mod copying;
 mod fault;
+mod filling;
 mod hides;
 mod joining;
+mod moving;
 mod part;
 mod placing;
 mod putting;

@@ -1,6 +1,7 @@
 //! Parts of replacement lists.
-ghost use Rattle.std.specs.Prelude.{◌≡◌, ◌+◌, ◌<◌, ◌||◌, length, drop};
+ghost use Rattle.std.specs.Prelude.{◌≡◌, ◌+◌, ◌<◌, ◌||◌, true, false, length, drop};
 ghost use Rattle.cb_paste.specs.Puts.{next_glued};
+ghost use Rattle.cb_paste.specs.inner.Uses.{has_parameter, is_used};
 
 use cb_paths::Bytes;
 use cb_tokens::TokenKind;
@@ -46,4 +47,36 @@ pub(crate) fn is_beside(parts: &[Part], at: usize) -> bool
         return true;
     }
     is_glued(parts, at + 1)
+}
+
+/// In how many parts a further use of an argument is looked for. Without a bound a long list would take the square of its
+/// length.
+const LOOK: usize = 64;
+
+/// Whether a part puts in the argument of a parameter, or its string.
+fn has_parameter(part: &Part, i: usize) -> bool
+    ensures { result ≡ has_parameter part.now.shape i }
+{
+    match &part.shape {
+        Shape::Fixed(..) => false,
+        Shape::Parameter(j) => *j == i,
+        Shape::Quoted(j) => *j == i,
+    }
+}
+
+/// Whether one of the parts does.
+fn is_used(parts: &[Part], i: usize) -> bool
+    ensures { result ≡ is_used parts.now i }
+{
+    parts.iter().any(|part| has_parameter(part, i))
+}
+
+/// Whether it was seen that no part uses the argument of a parameter: in long lists that is not looked for.
+pub(crate) fn lack(parts: &[Part], i: usize) -> bool
+    ensures { result ≡ true → is_used parts.now i ≡ false }
+{
+    if parts.len() > LOOK {
+        return false;
+    }
+    !is_used(parts, i)
 }

@@ -6,37 +6,38 @@ ghost use Rattle.cb_paste.specs.Puts.{seen_arguments, puts, AreArgumentsIn};
 
 use crate::argument::Argument;
 use crate::fault::PasteFault;
+use crate::filling::put_all;
 use crate::hides::Hides;
 use crate::part::Part;
 use crate::placing::{push_slots, space_first};
-use crate::putting::put_all;
 use crate::site::Site;
 use crate::work_token::WorkToken;
 use std::alloc::Global;
 
 /// Puts the tokens of a macro's replacement list, with the arguments in the place of the parameters, onto a stack whose
-/// last token is the next one to be read, and answers how many there are. An object-like macro has no arguments. It stops
+/// last token is the next one to be read, and answers how many there are. An object-like macro has no arguments.
+/// Where an argument is not used again, its own tokens go onto the stack: of what is left of the arguments nothing is said. It stops
 /// with `TooLong` as soon as it is certain that there is no room for all of them, and then leaves the stack as it was;
 /// out of memory it leaves there a part of them.
 pub fn substitute(
     alloc: Global,
     arena: &mut Hides,
     parts: &[Part],
-    arguments: &[Argument],
+    arguments: &mut [Argument],
     site: Site,
     stack: &mut Vec<WorkToken>,
 ) -> Result<usize, PasteFault>
-    requires arguments { AreArgumentsIn (length arena.old) arguments.now }
+    requires arguments { AreArgumentsIn (length arena.old) arguments.old }
     requires stack { AreIn (length arena.old) stack.old.items }
     requires extra { site.hides ≤ length arena.old }
     ensures put { OnOk result (waiting arena.new stack.new.items
-        ≡ all_shaded (hides arena.old site.hides) (puts (seen_arguments arena.old arguments.now) site.spaced parts.now)
+        ≡ all_shaded (hides arena.old site.hides) (puts (seen_arguments arena.old arguments.old) site.spaced parts.now)
         ++ waiting arena.old stack.old.items) }
     ensures count { IfOk result (λ count. count
-        ≡ length (puts (seen_arguments arena.old arguments.now) site.spaced parts.now)) }
+        ≡ length (puts (seen_arguments arena.old arguments.old) site.spaced parts.now)) }
     ensures room { IfOk result (λ count. count ≤ site.room) }
     ensures long { result ≡ Err PasteFault.TooLong
-        → (site.room < length (puts (seen_arguments arena.old arguments.now) site.spaced parts.now))
+        → (site.room < length (puts (seen_arguments arena.old arguments.old) site.spaced parts.now))
         × (stack.new ≡ stack.old) }
     ensures within { OnOk result (AreIn (length arena.new) stack.new.items) }
     ensures kept { Extends arena.old arena.new }

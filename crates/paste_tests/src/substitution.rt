@@ -127,7 +127,7 @@ fn written(alloc: Global, mut stack: Vec<WorkToken>) -> Result<Vec<u8>, NoMemory
 /// What a call puts in where there is room for so many tokens, as it is written in rows.
 fn put_in(alloc: Global, parts: &str, arguments: &str, room: usize) -> Result<Vec<u8>, PasteFault> {
     let parts = parts_of(alloc, parts)?;
-    let arguments = arguments_of(alloc, arguments)?;
+    let mut arguments = arguments_of(alloc, arguments)?;
     let site = Site {
         spaced: false,
         hides: 0,
@@ -139,7 +139,7 @@ fn put_in(alloc: Global, parts: &str, arguments: &str, room: usize) -> Result<Ve
         alloc,
         &mut arena,
         parts.as_slice(),
-        arguments.as_slice(),
+        arguments.as_mut_slice(),
         site,
         &mut stack,
     )?;

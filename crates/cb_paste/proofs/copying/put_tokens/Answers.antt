@@ -2,7 +2,7 @@ use Rattle.std.proofs.Common.{◌≡◌, ◌+◌, ◌++◌, ◌∷◌, [], map, 
 use Rattle.std.proofs.lemmas.Result.{err_from_is_err_and}
 use Rattle.cb_paste.specs.inner.Slots.{token_count, as_slot}
 use Rattle.cb_paste.proofs.Copies.{as_more, as_few}
-use Rattle.cb_paste.proofs.putting.put_tokens.Goals as goal
+use Rattle.cb_paste.proofs.copying.put_tokens.Goals as goal
 
 pub returns-in_err-push-clause-long : goal.returns-in_err-push-clause-long
 returns-in_err-push-clause-long c =

@@ -5,7 +5,7 @@ use Rattle.cb_paste.specs.Puts.{put_one}
 use Rattle.cb_paste.specs.inner.Slots.{seen_slot}
 use Rattle.cb_paste.specs.inner.Given.{tokens_puts}
 use Rattle.cb_paste.proofs.Counts.{put_none}
-use Rattle.cb_paste.proofs.putting.put_argument.Goals as goal
+use Rattle.cb_paste.proofs.copying.put_argument.Goals as goal
 
 pub returns-else-beside-clause-put : goal.returns-else-beside-clause-put
 returns-else-beside-clause-put c =

@@ -9,7 +9,7 @@ use Rattle.cb_paste.proofs.Arenas.{extends_length}
 use Rattle.cb_paste.proofs.Standing.{in_more, slots_in_append, as_slots_in}
 use Rattle.cb_paste.proofs.Counts.{reals-append, reals_count, put_more}
 use Rattle.cb_paste.proofs.Copies.{rest_put}
-use Rattle.cb_paste.proofs.putting.put_some.Goals as goal
+use Rattle.cb_paste.proofs.copying.put_some.Goals as goal
 
 pub returns-in_err-put-clause-long : goal.returns-in_err-put-clause-long
 returns-in_err-put-clause-long c =

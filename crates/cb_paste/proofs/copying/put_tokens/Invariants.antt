@@ -1,6 +1,6 @@
 use Rattle.std.proofs.Common.{◌≡◌, ◌≤◌, ◌++◌, map, take}
 use Rattle.cb_paste.specs.inner.Slots.{token_count, as_slot}
-use Rattle.cb_paste.proofs.putting.put_tokens.Given as goal
+use Rattle.cb_paste.proofs.copying.put_tokens.Given as goal
 
 abbrev pub invariant-tokens : goal.invariant-tokens
 invariant-tokens l = record {
