@@ -142,7 +142,7 @@ pub(crate) fn read_parts(
 ) -> Result<Vec<Part>, NoMemory>
     ensures { IfOk result (λ parts. parts.items ≡ glues Before.Nothing (items is_function names.now tokens.now)) }
 {
-    let mut parts = Vec::new(alloc);
+    let mut parts = Vec::with_capacity(alloc, tokens.len())?;
     let mut before = Before::Nothing;
     let mut at = 0;
     'tokens: while at < tokens.len() {

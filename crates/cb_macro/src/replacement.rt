@@ -86,7 +86,7 @@ fn push_copies(alloc: Global, copies: &mut Vec<Token>, tokens: &[Token]) -> Resu
 pub(crate) fn copy_replacement(alloc: Global, tokens: &[Token]) -> Result<Vec<Token>, NoMemory>
     ensures { IfOk result (λ copies. copies.items ≡ without_front_space tokens.now) }
 {
-    let mut copies = Vec::new(alloc);
+    let mut copies = Vec::with_capacity(alloc, tokens.len())?;
     if tokens.is_empty() {
         return Ok(copies);
     }

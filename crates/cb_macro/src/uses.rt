@@ -25,7 +25,7 @@ fn unused(alloc: Global, count: usize) -> Result<Vec<Use>, NoMemory>
     ensures uses { IfOk result (λ uses. AreUsesOf uses.items []) }
     ensures count { IfOk result (λ uses. length uses.items ≡ count) }
 {
-    let mut uses = Vec::new(alloc);
+    let mut uses = Vec::with_capacity(alloc, count)?;
     'uses: while uses.len() < count {
         uses.push(Use {
             is_shown: false,
