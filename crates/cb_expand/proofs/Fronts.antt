@@ -6,7 +6,7 @@ use Rattle.cb_tokens.specs.declared.token.Token.{Token}
 use Rattle.cb_paste.specs.Shades.{Shaded}
 use Rattle.cb_expand.specs.declared.mode.Mode.{Mode}
 use Rattle.cb_expand.specs.Heads.{Named, Stands, head}
-use Rattle.cb_expand.specs.Expansion.{Expands, ends, stands, bare, plain, IsExpansion, IsReplacement, IsTooDear}
+use Rattle.cb_expand.specs.Expansion.{ends, stands, bare, plain, IsExpansion, IsReplacement, IsTooDear}
 use Rattle.cb_expand.specs.inner.Fronts.{AreRead}
 use Rattle.cb_expand.proofs.Unique.{by_this_head}
 

@@ -1,6 +1,6 @@
 -- What the token that is read next is.
 use Rattle.std.proofs.Common.{◌≡◌, ℕ, ◌+◌, ◌-◌, ◌≤◌, ◌<◌, Bool, true, false, List, [], ◌∷◌, length, get_or, refl, ap, sym, ◌∙◌, subst, arith, Option, Some, None}
-use Rattle.std.specs.Prelude.{◌==◌, ◌&&◌, ◌||◌, if◌then◌else◌, is_some, slice_get, IsSomeAnd, MatchOption, codes}
+use Rattle.std.specs.Prelude.{◌==◌, ◌&&◌, ◌||◌, if◌then◌else◌, is_some, slice_get, IsSomeAnd, IfSome, MatchOption, codes}
 use Rattle.std.specs.Str.{bytes_eq}
 use Rattle.cb_tokens.specs.Kinds.{is_identifier_kind}
 use Rattle.cb_macro.specs.Definitions.{Definition, all_parameters}
@@ -14,11 +14,11 @@ use Rattle.cb_expand.specs.declared.mode.Mode.TheVariants.{Plain, Condition}
 use Rattle.cb_expand.specs.declared.sign.Sign.{Sign}
 use Rattle.cb_expand.specs.declared.work.Work.{Work}
 use Rattle.cb_expand.specs.Arguments.{is_open, gather}
-use Rattle.cb_expand.specs.Heads.{Named, Stands, Calls, head, asked, asked_of, asking, named, called, gathered, object_call, only}
+use Rattle.cb_expand.specs.Heads.{Named, Head, Stands, Calls, head, asked, asked_of, asking, named, called, gathered, object_call, only}
 use Rattle.cb_expand.specs.inner.Gathers.{last_of, IsGathered}
 use Rattle.cb_expand.specs.inner.Rows.{between, signs}
 use Rattle.cb_expand.specs.inner.Works.{seen_all, row_of}
-use Rattle.cb_expand.specs.inner.Readings.{rest_of, named_call, inside, written_at, IsEnded, IsCalled}
+use Rattle.cb_expand.specs.inner.Readings.{rest_of, named_call, inside, written_at, IsEnded, IsOpened, IsCalled}
 use Rattle.cb_expand.proofs.Heights.{between_more}
 use Rattle.cb_expand.proofs.ByEnds.{sign_is, no_token}
 use Rattle.cb_expand.proofs.Putting.{parts_are}
@@ -119,10 +119,36 @@ module _ (w : Work) (d : Definition) (g : Sign) (a : w.floor < length w.row.toke
   pub opened : is_open g ≡ true → gathered d (rest_of w) ≡ gather d.is_variadic (length (all_parameters d)) (between w.floor (inside w) (row_of w))
   opened e = by_open true e
 
--- the call that it is
-module _ (ms : Named) (w : Work) (t : WorkToken) (place : ℕ) (d : Definition) (p : place < length ms) (i : IsSomeAnd (slice_get ms place) (λ e. e.1 ≡ d)) (ends : List ℕ) (lacks : Bool)
+-- the name behind which a parenthesis opens
+pub is_opened : (ms : Named) (w : Work) (t : WorkToken) (place : ℕ) (d : Definition) → place < length ms → IsSomeAnd (slice_get ms place) (λ e. e.1 ≡ d) → w.floor < length w.row.tokens.items
+    → gathered d (rest_of w) ≡ gather d.is_variadic (length (all_parameters d)) (between w.floor (inside w) (row_of w))
+    → IsOpened ms w t place (called place d (seen w.arena t) (rest_of w) (gathered d (rest_of w)))
+is_opened ms w t place d p i a o = record { placed = p; some = a; is = opened_at (slice_get ms place) i }
+  where
+    opened_at : (x : Option (List ℕ × Definition)) → IsSomeAnd x (λ e. e.1 ≡ d)
+        → IsSomeAnd x (λ e. called place d (seen w.arena t) (rest_of w) (gathered d (rest_of w)) ≡ called place e.1 (seen w.arena t) (rest_of w) (gather e.1.is_variadic (length (all_parameters e.1)) (between w.floor (inside w) (row_of w))))
+    opened_at None h = absurd h
+    opened_at (Some e) h =
+        ap (called place d (seen w.arena t) (rest_of w)) o
+        ∙ ap (λ (d : Definition). called place d (seen w.arena t) (rest_of w) (gather d.is_variadic (length (all_parameters d)) (between w.floor (inside w) (row_of w)))) (sym h)
+
+-- what was found, told otherwise
+pub match_more : {X : Type 0} {A B : Type 0} {P Q : X → Type 0} (o : Option X) → (A → B) → ((x : X) → P x → Q x) → MatchOption o A P → MatchOption o B Q
+match_more None f g h = f h
+match_more (Some x) f g h = g x h
+
+pub some_more : {X : Type 0} (A : Type 0) {P Q : X → Type 0} (o : Option X) → ((x : X) → P x → Q x) → MatchOption o A P → IfSome o Q
+some_more A None g h = tt
+some_more A (Some x) g h = g x h
+
+-- what it is by the definition in its place
+pub opened_by : (x : Option (List ℕ × Definition)) (d : Definition) (f : Definition → Head) (h : Head) → IsSomeAnd x (λ e. h ≡ f e.1) → IsSomeAnd x (λ e. e.1 ≡ d) → h ≡ f d
+opened_by None d f h a b = absurd a
+opened_by (Some e) d f h a b = a ∙ ap f b
+
+-- its ends lie in the row
+module _ (ms : Named) (w : Work) (place : ℕ) (d : Definition) (p : place < length ms) (i : IsSomeAnd (slice_get ms place) (λ e. e.1 ≡ d)) (ends : List ℕ) (lacks : Bool)
     (a : 0 < length w.row.tokens.items)
-    (o : gathered d (rest_of w) ≡ gather d.is_variadic (length (all_parameters d)) (between w.floor (inside w) (row_of w)))
     (g : IsGathered (gather d.is_variadic (length (all_parameters d)) (between w.floor (inside w) (row_of w))) (row_of w) (length (all_parameters d)) w.floor (inside w) ends lacks) where
   few_by : (o : Option (List ℕ × Definition)) → IsSomeAnd o (λ e. e.1 ≡ d) → IsSomeAnd o (λ e. length ends ≤ length (all_parameters e.1))
   few_by None h = absurd h
@@ -131,16 +157,20 @@ module _ (ms : Named) (w : Work) (t : WorkToken) (place : ℕ) (d : Definition) 
   pub is_ended : IsEnded ms w place ends
   is_ended = record { placed = p; some = a; descending = g.descending; above = g.above; within = g.within; few = few_by (slice_get ms place) i }
 
-  pub is_called : IsCalled ms w t place ends lacks (called place d (seen w.arena t) (rest_of w) (gathered d (rest_of w)))
-  is_called = record {
-    close = g.close;
-    at = g.at;
-    is = ap (called place d (seen w.arena t) (rest_of w)) (o ∙ g.is)
-        ∙ ap (λ ps. Calls
-        (record { parts = ps; spaced = t.spaced; hides = λ n. (n == place) || (hides w.arena t.hides n && g.close.hides n); written = only (λ i. is_raw i ps) 0 (written_at w ends lacks) })
-        (only (λ i. is_shown i ps) 0 (written_at w ends lacks))
-        (between w.floor (last_of (inside w) ends - 1) (row_of w))) (sym (parts_are (slice_get ms place) d (parts d) i refl));
-  }
+-- the call that it is
+pub is_called : (ms : Named) (w : Work) (t : WorkToken) (place : ℕ) (d : Definition) → IsSomeAnd (slice_get ms place) (λ e. e.1 ≡ d) → (ends : List ℕ) (lacks : Bool) (h : Head)
+    → h ≡ called place d (seen w.arena t) (rest_of w) (gather d.is_variadic (length (all_parameters d)) (between w.floor (inside w) (row_of w)))
+    → IsGathered (gather d.is_variadic (length (all_parameters d)) (between w.floor (inside w) (row_of w))) (row_of w) (length (all_parameters d)) w.floor (inside w) ends lacks
+    → IsCalled ms w t place ends lacks h
+is_called ms w t place d i ends lacks h o g = record {
+  close = g.close;
+  at = g.at;
+  is = o ∙ (ap (called place d (seen w.arena t) (rest_of w)) g.is
+      ∙ ap (λ ps. Calls
+      (record { parts = ps; spaced = t.spaced; hides = λ n. (n == place) || (hides w.arena t.hides n && g.close.hides n); written = only (λ i. is_raw i ps) 0 (written_at w ends lacks) })
+      (only (λ i. is_shown i ps) 0 (written_at w ends lacks))
+      (between w.floor (last_of (inside w) ends - 1) (row_of w))) (sym (parts_are (slice_get ms place) d (parts d) i refl)));
+}
 
 -- the arguments that were looked for
 pub gather_is : (w : Work) (v u : Bool) (m n height : ℕ) → v ≡ u → m ≡ n → height ≡ inside w

@@ -9,7 +9,7 @@ use Rattle.cb_expand.specs.declared.sign.Sign.{Sign}
 use Rattle.cb_expand.specs.declared.sign.Sign.TheVariants.{Plain}
 use Rattle.cb_expand.specs.declared.row.Ends.{Ends}
 use Rattle.cb_expand.specs.Arguments.{sign, from_end}
-use Rattle.cb_expand.specs.inner.Rows.{signs, kept, end_height, AreEnds, IsRow}
+use Rattle.cb_expand.specs.inner.Rows.{signs, kept, end_height, AreEnds}
 use Rattle.cb_expand.proofs.Heights.{map-take}
 
 -- the sign of a token that was read
@@ -76,14 +76,11 @@ ends_take ss es n a = record {
       kept_take (λ e. e.separator) es n height (omega arith) ∙ (a.separator height (omega arith) ∙ sym (height_take true ss n height (omega arith)));
 }
 
-pub row_take : (ts : List WorkToken) (es : List Ends) (n : ℕ) → IsRow (signs ts) es → IsRow (signs (take n ts)) (take n es)
+pub row_take : (ts : List WorkToken) (es : List Ends) (n : ℕ) → AreEnds (signs ts) es → AreEnds (signs (take n ts)) (take n es)
 row_take ts es n r =
     let e : signs (take n ts) ≡ take n (signs ts) = map-take (λ (t : WorkToken). sign t.kind t.text) n ts in
-    subst (λ ss. IsRow ss (take n es)) (sym e) (record {
-      all = omega (arith, r.all, length-take n (signs ts), length-take n es);
-      ends = ends_take (signs ts) es n r.ends;
-    })
+    subst (λ ss. AreEnds ss (take n es)) (sym e) (ends_take (signs ts) es n r)
 
 -- the same lists, otherwise written
-pub row_is : (ts us : List WorkToken) (es fs : List Ends) → ts ≡ us → es ≡ fs → IsRow (signs ts) es → IsRow (signs us) fs
-row_is ts us es fs p q r = subst (λ es. IsRow (signs us) es) q (subst (λ ts. IsRow (signs ts) es) p r)
+pub row_is : (ts us : List WorkToken) (es fs : List Ends) → ts ≡ us → es ≡ fs → AreEnds (signs ts) es → AreEnds (signs us) fs
+row_is ts us es fs p q r = subst (λ es. AreEnds (signs us) es) q (subst (λ ts. AreEnds (signs ts) es) p r)

@@ -1,20 +1,24 @@
 -- Steps of reading over what lies in memory.
-use Rattle.std.proofs.Common.{◌≡◌, ℕ, ◌+◌, ◌≤◌, ◌<◌, List, [], ◌∷◌, ◌++◌, length, take, drop, ap, sym, ◌∙◌, subst, arith, None}
+use Rattle.std.proofs.Common.{Option, ◌≡◌, ℕ, ◌+◌, ◌≤◌, ◌<◌, List, [], ◌∷◌, ◌++◌, length, take, drop, ap, sym, ◌∙◌, subst, arith, None}
 use Rattle.std.specs.Prelude.{reverse}
 use Rattle.std.proofs.lemmas.List.{map-append, take-take, length-take}
 use Rattle.cb_paste.specs.declared.work_token.WorkToken.{WorkToken}
-use Rattle.cb_paste.specs.Shades.{Shaded, seen}
+use Rattle.cb_paste.specs.Shades.{Shaded, seen, AreIn}
 use Rattle.cb_expand.specs.declared.mode.Mode.{Mode}
 use Rattle.cb_expand.specs.declared.work.Frame.{Frame}
-use Rattle.std.specs.Prelude.{◌==◌, ◌||◌, slice_get}
+use Rattle.std.specs.Prelude.{◌==◌, ◌||◌, slice_get, IsSomeAnd}
+use Rattle.cb_macro.specs.Definitions.{all_parameters}
+use Rattle.cb_expand.specs.Arguments.{gather}
+use Rattle.cb_expand.specs.declared.row.Row.{Row}
+use Rattle.cb_expand.specs.declared.work.Call.{Call}
 use Rattle.std.proofs.Math.Path.{fun_ext}
 use Rattle.cb_paste.specs.Sets.{hides, Extends}
 use Rattle.cb_expand.specs.declared.work.Work.{Work}
-use Rattle.cb_expand.specs.Heads.{Named, Insertion, Stands, Calls, head, put}
-use Rattle.cb_expand.specs.inner.Readings.{head_of, rest_of, reading, named_call}
+use Rattle.cb_expand.specs.Heads.{Named, Insertion, Stands, Calls, called, head, put}
+use Rattle.cb_expand.specs.inner.Readings.{head_of, rest_of, reading, named_call, inside, Taken, IsOpened}
 use Rattle.cb_expand.specs.inner.Machine.{Pending, At, Steps}
-use Rattle.cb_expand.specs.inner.Rows.{between}
-use Rattle.cb_expand.specs.inner.Works.{seen_all, pendings, AreFrames, parts_of, put_of, row_of, outer_of, IsWork, Exceeds}
+use Rattle.cb_expand.specs.inner.Rows.{between, signs, AreEnds}
+use Rattle.cb_expand.specs.inner.Works.{seen_all, pendings, AreFrames, parts_of, put_of, row_of, outer_of, state_of, IsWork, Goes, Exceeds}
 use Rattle.cb_expand.proofs.Stepping.{step_stands, step_calls, step_more, step_put, costs, costs_between}
 use Rattle.cb_expand.proofs.Resuming.{length_outer}
 use Rattle.cb_expand.proofs.Alike.{seen_same, pendings_same, extends_none}
@@ -95,3 +99,34 @@ called_long ms mode old t i shown rest k l final n e =
     let a = step_calls ms mode (seen old.arena t) (rest_of old) i shown rest k (outer_of ms old) (seen_all old.arena old.done.items) in
     let r = a.forth final n e in
     omega (arith, r.2, costs_between ms mode r.1, length_outer ms old)
+
+-- which ends are kept for a row does not count
+module _ (ms : Named) (mode : Mode) (w : Work) (row : Row) (t : WorkToken) (e : row.tokens ≡ w.row.tokens) where
+  pub same_work : (macros : ℕ) → AreEnds (signs row.tokens.items) row.ends.items → IsWork macros w None → IsWork macros (record w { row = row }) None
+  same_work macros k h = record {
+    row = k;
+    tokens = subst (λ v. AreIn (length w.arena) v.items) (sym e) h.tokens;
+    done = h.done;
+    floor = omega (arith, h.floor, ap (λ v. length v.items) e);
+    frames = h.frames;
+    call = h.call;
+  }
+
+  pub same_opened : (place : ℕ) → IsOpened ms w t place (head_of ms mode w t) → IsOpened ms (record w { row = row }) t place (head_of ms mode (record w { row = row }) t)
+  same_opened place o = record {
+    placed = o.placed;
+    some = omega (arith, o.some, ap (λ v. length v.items) e);
+    is = subst (λ v. IsSomeAnd (slice_get ms place) (λ x. head_of ms mode (record w { row = record row { tokens = v } }) t
+        ≡ called place x.1 (seen w.arena t) (rest_of (record w { row = record row { tokens = v } })) (gather x.1.is_variadic (length (all_parameters x.1)) (between w.floor (inside (record w { row = record row { tokens = v } })) (row_of (record w { row = record row { tokens = v } }))))))
+        (sym e) o.is;
+  }
+
+  pub same_taken : (new : Work) (behind : Option Call) → Taken ms mode (record w { row = row }) t new behind → Taken ms mode w t new behind
+  same_taken new behind a = record {
+    goes = subst (λ v. Goes ms mode (reading ms (record w { row = record row { tokens = v } }) t) w.used (state_of ms new behind) new.used) e a.goes;
+    kept = a.kept;
+    smaller = omega (arith, a.smaller, ap (λ v. length v.items) e);
+  }
+
+  pub same_exceeds : Exceeds ms mode (reading ms (record w { row = row }) t) w.used → Exceeds ms mode (reading ms w t) w.used
+  same_exceeds x = subst (λ v. Exceeds ms mode (reading ms (record w { row = record row { tokens = v } }) t) w.used) e x

@@ -1,21 +1,21 @@
 -- Steps behind one another, from the source to the end.
-use Rattle.std.proofs.Common.{get_or, drop-cons, ◌≡◌, ℕ, zero, suc, ◌+◌, ◌≤◌, ◌<◌, Bool, true, false, List, [], ◌∷◌, ◌++◌, length, take, drop, refl, ap, sym, ◌∙◌, subst, arith, Option, Some, None, Result, Ok, Err, IfOk, length-append}
+use Rattle.std.proofs.Common.{◌≡◌, ℕ, zero, suc, ◌+◌, ◌≤◌, ◌<◌, Bool, true, false, List, [], ◌∷◌, ◌++◌, length, take, refl, ap, sym, ◌∙◌, subst, arith, Option, Some, None, Result, Ok, Err, IfOk, length-append}
 use Rattle.std.specs.Prelude.{reverse, map}
 use Rattle.std.proofs.lemmas.List.{map-append, take-append-le, reverse-reverse, take_all}
 use Rattle.cb_tokens.specs.declared.token.Token.{Token}
 use Rattle.cb_paste.specs.declared.work_token.WorkToken.{WorkToken}
 use Rattle.cb_paste.specs.Sets.{hides}
-use Rattle.cb_paste.specs.Shades.{Shaded, seen, AreIn}
+use Rattle.cb_paste.specs.Shades.{seen, AreIn}
 use Rattle.cb_expand.specs.declared.mode.Mode.{Mode}
 use Rattle.cb_expand.specs.declared.row.Ends.{Ends}
 use Rattle.cb_expand.specs.declared.sign.Sign.{Sign}
 use Rattle.cb_expand.specs.declared.work.Call.{Call}
 use Rattle.cb_expand.specs.declared.work.Frame.{Frame}
 use Rattle.cb_expand.specs.declared.work.Work.{Work}
-use Rattle.cb_expand.specs.Heads.{Named, Stands, head}
-use Rattle.cb_expand.specs.Expansion.{Expands, stands, IsReplacement, IsTooDear, bare, plain}
+use Rattle.cb_expand.specs.Heads.{Named}
+use Rattle.cb_expand.specs.Expansion.{Expands, IsReplacement, IsTooDear, bare, plain}
 use Rattle.cb_expand.specs.inner.Machine.{State, At, Steps, start, whole}
-use Rattle.cb_expand.specs.inner.Rows.{between, signs, kept, end_height, AreEnds, IsRow}
+use Rattle.cb_expand.specs.inner.Rows.{between, signs, kept, end_height, AreEnds}
 use Rattle.cb_expand.specs.inner.Works.{seen_all, pendings, row_of, outer_of, state_of, AreFrames, IsWork, Goes, Exceeds, weight, Stepped}
 use Rattle.cb_expand.specs.inner.Readings.{rest_of, reading, Taken}
 use Rattle.cb_expand.specs.inner.Sources.{as_read, as_token, IsStart, IsEnd, IsRunFrom}
@@ -106,7 +106,7 @@ ends_none ss es e = subst (λ (es : List Ends). AreEnds ss es) (sym e) (record {
     none_by field commas zero h = sym (height_none ss commas)
     none_by field commas (suc i) h = absurd (omega arith)
 
-pub started : (tokens : List Token) (w : Work) → w.row.tokens.items ≡ map as_read (reverse tokens) → IsRow (signs w.row.tokens.items) w.row.ends.items → w.floor ≡ 0
+pub started : (tokens : List Token) (w : Work) → w.row.tokens.items ≡ map as_read (reverse tokens) → AreEnds (signs w.row.tokens.items) w.row.ends.items → w.floor ≡ 0
     → w.frames.items ≡ [] → w.done.items ≡ [] → w.used ≡ 0 → IsStart tokens w
 unfolding state_of
 started tokens w r k f g d u = record {
@@ -177,7 +177,7 @@ module _ (ms : Named) (mode : Mode) (old popped new : Work) (t : WorkToken) (beh
     smaller = omega (arith, a.smaller, l);
   }
 
-pub popped_work : (macros : ℕ) (w p : Work) (t : WorkToken) → IsWork macros w None → w.row.tokens.items ≡ p.row.tokens.items ++ t ∷ [] → IsRow (signs p.row.tokens.items) p.row.ends.items
+pub popped_work : (macros : ℕ) (w p : Work) (t : WorkToken) → IsWork macros w None → w.row.tokens.items ≡ p.row.tokens.items ++ t ∷ [] → AreEnds (signs p.row.tokens.items) p.row.ends.items
     → w.floor < length w.row.tokens.items → p.arena ≡ w.arena → p.floor ≡ w.floor → p.frames ≡ w.frames → p.done ≡ w.done → p.used ≡ w.used → IsWork macros p None
 popped_work macros w p t h e r more a f fs d u = record {
   row = r;

@@ -1,17 +1,19 @@
 //! A call begins: its arguments are taken apart, and copied where they are wanted as written.
 ghost use Rattle.std.specs.Prelude.{◌≡◌, ◌==◌, ◌&&◌, ◌||◌, ◌-◌, ◌<◌, ◌≤◌, ℕ, None, Some, [], length, reverse, take};
-ghost use Rattle.std.specs.Prelude.{IfOk, Err, if◌then◌else◌};
+ghost use Rattle.std.specs.Prelude.{IfOk, IfSome, Err, if◌then◌else◌};
 ghost use Rattle.cb_paste.specs.Sets.{hides, Extends};
+ghost use Rattle.cb_paste.specs.declared.work_token.WorkToken.{WorkToken as Held};
+ghost use Rattle.cb_expand.specs.Heads.{Head};
 ghost use Rattle.cb_macro.specs.Definitions.{all_parameters};
 ghost use Rattle.cb_expand.specs.declared.mode.Mode.{Mode as Tongue};
 ghost use Rattle.cb_expand.specs.inner.Gathers.{AreDescending, last_of};
-ghost use Rattle.cb_expand.specs.inner.Rows.{signs, IsRow};
+ghost use Rattle.cb_expand.specs.inner.Rows.{signs, AreEnds, IsRow};
 ghost use Rattle.cb_expand.specs.inner.Works.{IsWork, Exceeds};
-ghost use Rattle.cb_expand.specs.inner.Readings.{Taken, IsCalled, IsEnded, head_of, reading};
+ghost use Rattle.cb_expand.specs.inner.Readings.{Taken, IsOpened, IsCalled, IsCalledBy, IsEnded, head_of, reading};
 ghost use Rattle.cb_expand.specs.inner.Lefts.{IsLeft, AreLefts, begin_of};
 
 use crate::fault::ExpandFault;
-use crate::gathering::Gathered;
+use crate::gathering::{Gathered, argument_ends};
 use crate::limits::COST_LIMIT;
 use crate::numbers::small;
 use crate::row::Row;
@@ -38,7 +40,7 @@ fn copy_of(alloc: Global, token: &WorkToken) -> Result<WorkToken, NoMemory>
 fn copies(alloc: Global, tokens: &[WorkToken]) -> Result<Vec<WorkToken>, NoMemory>
     ensures { IfOk result (λ copies. copies.items ≡ reverse tokens.now) }
 {
-    let mut copies = Vec::new(alloc);
+    let mut copies = Vec::with_capacity(alloc, tokens.len())?;
     let mut at = tokens.len();
     'tokens: while at > 0 {
         at -= 1;
@@ -105,7 +107,7 @@ fn lefts(
     requires descending { AreDescending height 0 ends.now }
     ensures { IfOk result (λ lefts. AreLefts body.now tokens.now 0 height ends.now (reverse lefts.items)) }
 {
-    let mut lefts = Vec::new(alloc);
+    let mut lefts = Vec::with_capacity(alloc, ends.len())?;
     let mut at = ends.len();
     'ends: while at > 0 {
         at -= 1;
@@ -143,16 +145,42 @@ fn close_of(ends: &[usize], height: usize) -> usize
 
 /// Takes the opening parenthesis away where no argument stands behind it, so that an end stands on top.
 fn uncover(row: &mut Row, has_arguments: bool)
-    requires { IsRow (signs row.old.tokens.items) row.old.ends.items }
+    requires { AreEnds (signs row.old.tokens.items) row.old.ends.items }
     ensures tokens { row.new.tokens.items ≡ (if has_arguments then row.old.tokens.items
         else take (length row.old.tokens.items - 1) row.old.tokens.items) }
-    ensures kept { IsRow (signs row.new.tokens.items) row.new.ends.items }
+    ensures kept { AreEnds (signs row.new.tokens.items) row.new.ends.items }
 {
     if has_arguments {
         return;
     }
     let height = row.tokens.len().saturating_sub(1);
     row.truncate(height);
+}
+
+/// Where the arguments of a call end, behind the parenthesis on top of the row; None where it is no call.
+pub(crate) fn call_ends(
+    alloc: Global,
+    macros: &Macros,
+    work: &Work,
+    place: usize,
+) -> Result<Option<Gathered>, NoMemory>
+    requires row { IsRow (signs work.now.row.tokens.items) work.now.row.ends.items }
+    requires place { place < length macros.now }
+    requires some { work.now.floor < length work.now.row.tokens.items }
+    ensures ended { IfOk result (λ o. IfSome o (λ g. IsEnded macros.now work.now place g.ends.items)) }
+    ensures called { (t : Held) (h : Head) → IsOpened macros.now work.now t place h
+        → IfOk result (IsCalledBy macros.now work.now t place h) }
+{
+    let body = macros.at(place);
+    let height = work.row.tokens.len() - 1;
+    argument_ends(
+        alloc,
+        &work.row,
+        work.floor,
+        height,
+        body.parameter_count(),
+        body.is_variadic(),
+    )
 }
 
 /// Takes the arguments of a call apart, and the opening parenthesis away where it has none.
@@ -187,11 +215,12 @@ pub(crate) fn begin_call(
     let body = macros.at(place);
     let left = lefts(alloc, work.row.tokens.as_slice(), body, ends, height)?;
     uncover(&mut work.row, !ends.is_empty());
+    let arguments = Vec::with_capacity(alloc, body.parameter_count())?;
     Ok(Call {
         place,
         spaced: token.spaced,
         hides,
-        arguments: Vec::new(alloc),
+        arguments,
         left,
         lacks_rest: gathered.lacks_rest,
     })

@@ -2,23 +2,21 @@
 ghost use Rattle.std.specs.Prelude.{◌≡◌, ◌<◌, ◌≤◌, List, ℕ, None, length, slice_get, IfOk, IsSomeAnd, if◌then◌else◌};
 ghost use Rattle.cb_paste.specs.declared.work_token.WorkToken.{WorkToken as Held};
 ghost use Rattle.cb_paste.specs.Shades.{Shaded, seen};
+ghost use Rattle.cb_macro.specs.Definitions.{Definition};
 ghost use Rattle.cb_expand.specs.Heads.{Named, asked, asked_of, asking, called, gathered};
-ghost use Rattle.cb_expand.specs.inner.Rows.{signs, IsRow};
 ghost use Rattle.cb_expand.specs.inner.Works.{IsWork};
 ghost use Rattle.cb_expand.specs.inner.Readings.{rest_of, head_of, IsHeading};
 
 use crate::asking::asked_name;
-use crate::gathering::{Gathered, argument_ends};
 use crate::mode::Mode;
 use crate::numbers::small;
 use crate::work::Work;
-use cb_macro::{Macro, Macros};
+use cb_macro::Macros;
 use cb_paste::WorkToken;
 use cb_paths::NoMemory;
-use std::alloc::Global;
 
 /// What a token is.
-#[derive(Drop)]
+#[derive(Clone, Copy)]
 pub(crate) enum Heading {
     /// It stands.
     Stands,
@@ -26,8 +24,8 @@ pub(crate) enum Heading {
     Asks(bool, usize),
     /// It is the name of an object-like macro in this place.
     Object(usize),
-    /// It is the name of a function-like macro in this place, whose arguments end so.
-    Function(usize, Gathered),
+    /// It is the name of a function-like macro in this place, behind which a parenthesis opens.
+    Function(usize),
 }
 
 /// Whether a token may ask for a name.
@@ -44,48 +42,24 @@ fn asks(mode: Mode, token: &WorkToken) -> bool
     }
 }
 
-/// What the name of a function-like macro is, which is no call without its arguments.
-fn function_heading(
-    alloc: Global,
-    work: &Work,
-    place: usize,
-    body: &Macro,
-) -> Result<Heading, NoMemory>
-    requires row { IsRow (signs work.now.row.tokens.items) work.now.row.ends.items }
+/// What the name of a function-like macro is, which is no call where no parenthesis opens behind it.
+fn function_heading(work: &Work, place: usize) -> Heading
     requires floor { work.now.floor ≤ length work.now.row.tokens.items }
-    ensures { (ms : Named) (t : Held) → place < length ms → IsSomeAnd (slice_get ms place) (λ e. e.1 ≡ body.now)
-        → IfOk result (IsHeading ms work.now t
-        (called place body.now (seen work.now.arena t) (rest_of work.now) (gathered body.now (rest_of work.now)))) }
+    ensures { (ms : Named) (t : Held) (d : Definition) → place < length ms → IsSomeAnd (slice_get ms place) (λ e. e.1 ≡ d)
+        → IsHeading ms work.now t (called place d (seen work.now.arena t) (rest_of work.now) (gathered d (rest_of work.now))) result }
 {
     let height = work.row.tokens.len();
     if height == work.floor {
-        return Ok(Heading::Stands);
+        return Heading::Stands;
     }
     if !work.row.sign(height).is_open() {
-        return Ok(Heading::Stands);
+        return Heading::Stands;
     }
-    let count = body.parameter_count();
-    let ends = argument_ends(
-        alloc,
-        &work.row,
-        work.floor,
-        height - 1,
-        count,
-        body.is_variadic(),
-    )?;
-    match ends {
-        None => Ok(Heading::Stands),
-        Some(gathered) => Ok(Heading::Function(place, gathered)),
-    }
+    Heading::Function(place)
 }
 
 /// What a token is that asks for no name.
-fn named_heading(
-    alloc: Global,
-    macros: &Macros,
-    work: &Work,
-    token: &WorkToken,
-) -> Result<Heading, NoMemory>
+fn named_heading(macros: &Macros, work: &Work, token: &WorkToken) -> Result<Heading, NoMemory>
     requires work { IsWork (length macros.now) work.now None }
     requires token { token.now.hides ≤ length work.now.arena }
     ensures { IfOk result (IsHeading macros.now work.now token.now
@@ -102,14 +76,13 @@ fn named_heading(
     }
     let body = macros.at(place);
     if body.is_function() {
-        return function_heading(alloc, work, place, body);
+        return Ok(function_heading(work, place));
     }
     Ok(Heading::Object(place))
 }
 
 /// What a token is that was taken from the row.
 pub(crate) fn heading_of(
-    alloc: Global,
     macros: &Macros,
     mode: Mode,
     work: &Work,
@@ -120,10 +93,10 @@ pub(crate) fn heading_of(
     ensures { IfOk result (IsHeading macros.now work.now token.now (head_of macros.now mode work.now token.now)) }
 {
     if !asks(mode, token) {
-        return named_heading(alloc, macros, work, token);
+        return named_heading(macros, work, token);
     }
     match asked_name(work.row.tokens.as_slice(), work.floor) {
-        None => named_heading(alloc, macros, work, token),
+        None => named_heading(macros, work, token),
         Some(asked) => {
             let name = &work.row.tokens[asked.name];
             let is_defined = macros.place_of(name.text.as_slice()).is_some();

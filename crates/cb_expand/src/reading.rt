@@ -3,11 +3,11 @@ ghost use Rattle.std.specs.Prelude.{◌≡◌, ◌<◌, ◌≤◌, None, length,
 ghost use Rattle.cb_paste.specs.Shades.{seen};
 ghost use Rattle.cb_expand.specs.declared.mode.Mode.{Mode as Tongue};
 ghost use Rattle.cb_expand.specs.Heads.{Named, Head, answer_token};
-ghost use Rattle.cb_expand.specs.inner.Rows.{signs, between, IsRow};
+ghost use Rattle.cb_expand.specs.inner.Rows.{signs, between, AreEnds};
 ghost use Rattle.cb_expand.specs.inner.Works.{IsWork, Exceeds, Stepped, row_of, state_of};
-ghost use Rattle.cb_expand.specs.inner.Readings.{Taken, head_of, rest_of, reading, named_call};
+ghost use Rattle.cb_expand.specs.inner.Readings.{Taken, IsOpened, head_of, rest_of, reading, named_call};
 
-use crate::calling::begin_call;
+use crate::calling::{begin_call, call_ends};
 use crate::fault::ExpandFault;
 use crate::heading::{Heading, heading_of};
 use crate::limits::COST_LIMIT;
@@ -66,7 +66,7 @@ fn answer(
     is_defined: bool,
     height: usize,
 ) -> Result<(), NoMemory>
-    requires row { IsRow (signs work.old.row.tokens.items) work.old.row.ends.items }
+    requires row { AreEnds (signs work.old.row.tokens.items) work.old.row.ends.items }
     ensures { (ms : Named) (mode : Tongue) → IsWork (length ms) work.old None → token.hides ≤ length work.old.arena
         → work.old.floor ≤ height → height ≤ length work.old.row.tokens.items
         → head_of ms mode work.old token ≡ Head.Stands (answer_token (seen work.old.arena token) is_defined)
@@ -84,6 +84,40 @@ fn answer(
     Ok(())
 }
 
+/// Reads the arguments of a call, where a parenthesis opens behind its name: the name stands where they have no end, or are
+/// of another number than the parameters.
+fn read_call(
+    alloc: Global,
+    macros: &Macros,
+    work: &mut Work,
+    token: WorkToken,
+    place: usize,
+) -> Result<Option<Call>, ExpandFault>
+    requires work { IsWork (length macros.now) work.old None }
+    requires token { token.hides ≤ length work.old.arena }
+    requires place { place < length macros.now }
+    requires some { work.old.floor < length work.old.row.tokens.items }
+    ensures taken { (mode : Tongue)
+        → IsOpened macros.now work.old token place (head_of macros.now mode work.old token)
+        → IfOk result (λ behind. Taken macros.now mode work.old token work.new behind) }
+    ensures long { (mode : Tongue)
+        → IsOpened macros.now work.old token place (head_of macros.now mode work.old token)
+        → result ≡ Err ExpandFault.TooLong
+        → Exceeds macros.now mode (reading macros.now work.old token) work.old.used }
+{
+    work.row.keep_ends()?;
+    match call_ends(alloc, macros, work, place)? {
+        None => {
+            stand(work, token)?;
+            Ok(None)
+        }
+        Some(gathered) => {
+            let call = begin_call(alloc, macros, work, &token, place, gathered)?;
+            Ok(Some(call))
+        }
+    }
+}
+
 /// Deals with a token that was taken from the row.
 fn deal(
     alloc: Global,
@@ -98,7 +132,7 @@ fn deal(
     ensures long { result ≡ Err ExpandFault.TooLong
         → Exceeds macros.now mode (reading macros.now work.old token) work.old.used }
 {
-    let heading = heading_of(alloc, macros, mode, work, &token)?;
+    let heading = heading_of(macros, mode, work, &token)?;
     match heading {
         Heading::Stands => {
             stand(work, token)?;
@@ -112,10 +146,7 @@ fn deal(
             replace_name(alloc, macros, work, &token, place)?;
             Ok(None)
         }
-        Heading::Function(place, gathered) => {
-            let call = begin_call(alloc, macros, work, &token, place, gathered)?;
-            Ok(Some(call))
-        }
+        Heading::Function(place) => read_call(alloc, macros, work, token, place),
     }
 }
 

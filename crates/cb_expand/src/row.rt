@@ -1,4 +1,4 @@
-//! The tokens that are still to be read, with the ends of the arguments that begin at each.
+//! The tokens that are still to be read, with the ends of the arguments that begin at those below a call.
 ghost use Rattle.std.specs.Prelude.{◌≡◌, ◌+◌, ◌-◌, ◌≤◌, ◌<◌, ◌++◌, false, true, length, take, OnOk};
 ghost use Rattle.std.specs.Option.{option_to_list};
 ghost use Rattle.std.specs.List.{slice_index_or};
@@ -75,17 +75,18 @@ fn next_ends(tokens: &[WorkToken], ends: &[Ends]) -> Ends
     }
 }
 
-/// The tokens that are still to be read, the next one last, each with the ends of what begins there.
+/// The tokens that are still to be read, the next one last. The ends of what begins at the first of them are kept: those of
+/// all are found once a call is met, so that tokens in which none stands cost nothing, and each is looked at once.
 #[derive(Drop)]
 pub(crate) struct Row {
     /// The tokens.
     pub(crate) tokens: Vec<WorkToken>,
-    /// The ends of what begins at each.
+    /// The ends of what begins at each of the first tokens.
     pub(crate) ends: Vec<Ends>,
 }
 
 impl Row {
-    /// Keeps the ends for the tokens that were put on top.
+    /// Keeps the ends for the tokens for which none are kept yet.
     pub(crate) fn keep_ends(&mut self) -> Result<(), NoMemory>
         requires { AreEnds (signs self.old.tokens.items) self.old.ends.items }
         ensures tokens { self.new.tokens ≡ self.old.tokens }
@@ -100,20 +101,21 @@ impl Row {
 
     /// Takes the top token away.
     pub(crate) fn pop(&mut self) -> Option<WorkToken>
-        requires { IsRow (signs self.old.tokens.items) self.old.ends.items }
+        requires { AreEnds (signs self.old.tokens.items) self.old.ends.items }
         ensures tokens { self.old.tokens.items ≡ self.new.tokens.items ++ option_to_list result }
         ensures rest { self.new.tokens.items ≡ take (length self.old.tokens.items - 1) self.old.tokens.items }
-        ensures kept { IsRow (signs self.new.tokens.items) self.new.ends.items }
+        ensures kept { AreEnds (signs self.new.tokens.items) self.new.ends.items }
     {
-        let _ends = self.ends.pop();
-        self.tokens.pop()
+        let token = self.tokens.pop();
+        self.ends.truncate(self.tokens.len());
+        token
     }
 
     /// Takes all tokens above a height away.
     pub(crate) fn truncate(&mut self, height: usize)
-        requires { IsRow (signs self.old.tokens.items) self.old.ends.items }
+        requires { AreEnds (signs self.old.tokens.items) self.old.ends.items }
         ensures tokens { self.new.tokens.items ≡ take height self.old.tokens.items }
-        ensures kept { IsRow (signs self.new.tokens.items) self.new.ends.items }
+        ensures kept { AreEnds (signs self.new.tokens.items) self.new.ends.items }
     {
         self.ends.truncate(height);
         self.tokens.truncate(height);

@@ -40,16 +40,18 @@ fn stacked(alloc: Global, tokens: &[Token]) -> Result<Vec<WorkToken>, NoMemory>
 pub(crate) fn work_of(alloc: Global, tokens: &[Token]) -> Result<Work, NoMemory>
     ensures { IfOk result (IsStart tokens.now) }
 {
-    let ends = Vec::with_capacity(alloc, tokens.len())?;
+    let done = Vec::with_capacity(alloc, tokens.len())?;
     let tokens = stacked(alloc, tokens)?;
-    let mut row = Row { tokens, ends };
-    row.keep_ends()?;
+    let row = Row {
+        tokens,
+        ends: Vec::new(alloc),
+    };
     Ok(Work {
         arena: Hides::new(alloc),
         row,
         floor: 0,
         frames: Vec::new(alloc),
-        done: Vec::new(alloc),
+        done,
         used: 0,
     })
 }

@@ -2,7 +2,7 @@
 ghost use Rattle.std.specs.Prelude.{None, IsTrue, OnOk, length, ◌<◌};
 ghost use Rattle.cb_expand.specs.declared.mode.Mode.{Mode as Tongue};
 ghost use Rattle.cb_expand.specs.Heads.{Named};
-ghost use Rattle.cb_expand.specs.inner.Rows.{signs, IsRow};
+ghost use Rattle.cb_expand.specs.inner.Rows.{signs, AreEnds};
 ghost use Rattle.cb_expand.specs.inner.Works.{IsWork, Stepped};
 ghost use Rattle.cb_expand.specs.inner.Readings.{IsPlainNext};
 
@@ -24,10 +24,10 @@ pub(crate) fn is_plain_next(work: &Work) -> bool
 /// Lets the next token stand, which is no identifier.
 fn stand_next(work: &mut Work) -> Result<(), NoMemory>
     requires next { IsPlainNext work.old }
-    requires row { IsRow (signs work.old.row.tokens.items) work.old.row.ends.items }
+    requires row { AreEnds (signs work.old.row.tokens.items) work.old.row.ends.items }
     ensures stood { OnOk result ((ms : Named) (mode : Tongue) → IsWork (length ms) work.old None
         → Stepped ms mode work.old None work.new None) }
-    ensures row { OnOk result (IsRow (signs work.new.row.tokens.items) work.new.row.ends.items) }
+    ensures row { OnOk result (AreEnds (signs work.new.row.tokens.items) work.new.row.ends.items) }
     ensures fewer { OnOk result (length work.new.row.tokens.items < length work.old.row.tokens.items) }
 {
     let Some(token) = work.row.pop() else {
@@ -40,7 +40,7 @@ fn stand_next(work: &mut Work) -> Result<(), NoMemory>
 /// Lets the next tokens of the innermost list stand up to its first identifier.
 pub(crate) fn stand_plain(work: &mut Work) -> Result<(), NoMemory>
     requires next { IsPlainNext work.old }
-    requires row { IsRow (signs work.old.row.tokens.items) work.old.row.ends.items }
+    requires row { AreEnds (signs work.old.row.tokens.items) work.old.row.ends.items }
     ensures { OnOk result ((ms : Named) (mode : Tongue) → IsWork (length ms) work.old None
         → Stepped ms mode work.old None work.new None) }
 {

@@ -5,7 +5,7 @@ ghost use Rattle.cb_paste.specs.Puts.{AreArgumentsIn};
 ghost use Rattle.cb_expand.specs.declared.mode.Mode.{Mode};
 ghost use Rattle.cb_expand.specs.Heads.{Named};
 ghost use Rattle.cb_expand.specs.inner.Machine.{Between};
-ghost use Rattle.cb_expand.specs.inner.Rows.{signs, IsRow};
+ghost use Rattle.cb_expand.specs.inner.Rows.{signs, AreEnds};
 ghost use Rattle.cb_expand.specs.inner.Works.{put_of, raws, became, lacking, Added, IsWork, Stepped, IsReplaceable, resumed, outer_of, state_of, Goes, Exceeds, weight};
 
 use crate::fault::ExpandFault;
@@ -41,7 +41,7 @@ pub(crate) fn put_in(
     requires arguments { AreArgumentsIn (length work.old.arena) arguments.now }
     requires hides { hides ≤ length work.old.arena }
     requires tokens { AreIn (length work.old.arena) work.old.row.tokens.items }
-    requires row { IsRow (signs work.old.row.tokens.items) work.old.row.ends.items }
+    requires row { AreEnds (signs work.old.row.tokens.items) work.old.row.ends.items }
     requires limit { work.old.used + length work.old.frames.items < 65536 }
     ensures added { OnOk result (Added work.old work.new (put_of macros.now work.old.arena place spaced hides arguments.now)) }
     ensures long { result ≡ Err ExpandFault.TooLong
@@ -66,7 +66,6 @@ pub(crate) fn put_in(
         Ok(count) => count,
         Err(fault) => return Err(fault_of(fault)),
     };
-    work.row.keep_ends()?;
     work.used += 1 + count;
     Ok(())
 }

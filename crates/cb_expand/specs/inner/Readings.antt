@@ -1,5 +1,5 @@
 -- Reading the next token of the innermost list.
-use Rattle.std.specs.Prelude.{◌≡◌, ℕ, ◌+◌, ◌-◌, ◌==◌, ◌&&◌, ◌||◌, ◌<◌, ◌≤◌, Bool, false, List, [], ◌∷◌, ◌++◌, length, Option, slice_get, slice_index_or, IsSomeAnd}
+use Rattle.std.specs.Prelude.{◌≡◌, ℕ, ◌+◌, ◌-◌, ◌==◌, ◌&&◌, ◌||◌, ◌<◌, ◌≤◌, Bool, false, List, [], ◌∷◌, ◌++◌, length, Option, slice_get, slice_index_or, IsSomeAnd, MatchOption}
 use Rattle.cb_tokens.specs.Kinds.{is_identifier_kind}
 use Rattle.cb_paste.specs.declared.work_token.WorkToken.{WorkToken}
 use Rattle.cb_paste.specs.Shades.{Shaded, seen}
@@ -9,9 +9,11 @@ use Rattle.cb_expand.specs.declared.work.Call.{Call}
 use Rattle.cb_expand.specs.declared.work.Work.{Work}
 use Rattle.cb_macro.specs.Definitions.{all_parameters}
 use Rattle.cb_macro.specs.Parts.{is_shown, is_raw}
+use Rattle.cb_expand.specs.declared.gathering.Gathered.{Gathered}
 use Rattle.cb_expand.specs.declared.heading.Heading.{Heading}
 use Rattle.cb_expand.specs.declared.heading.Heading.TheVariants as headings
-use Rattle.cb_expand.specs.Heads.{Named, Head, Stands, Calls, head, only, answer_token}
+use Rattle.cb_expand.specs.Arguments.{gather}
+use Rattle.cb_expand.specs.Heads.{Named, Head, Stands, Calls, head, only, answer_token, called}
 use Rattle.cb_expand.specs.inner.Gathers.{pieces, last_of, AreDescending}
 use Rattle.cb_expand.specs.inner.Machine.{State, At}
 use Rattle.cb_expand.specs.inner.Rows.{between}
@@ -82,6 +84,18 @@ pub record IsCalled (ms : Named) (w : Work) (t : WorkToken) (place : ℕ) (ends 
   pub at : (other : Shaded) → slice_index_or (row_of w) (last_of (inside w) ends - 1) other ≡ close
   pub is : h ≡ function_at ms w t place ends lacks close
 
+-- a head is that of a name of a function-like macro, behind which a parenthesis opens on top of the row (own)
+pub record IsOpened (ms : Named) (w : Work) (t : WorkToken) (place : ℕ) (h : Head) : Type 0 where
+  pub placed : place < length ms
+  pub some : w.floor < length w.row.tokens.items
+  pub is : IsSomeAnd (slice_get ms place) (λ e. h ≡ called place e.1 (seen w.arena t) (rest_of w) (gather e.1.is_variadic (length (all_parameters e.1)) (between w.floor (inside w) (row_of w))))
+
+-- a head is the call whose arguments were found, or else a name that stands (own)
+abbrev pub IsCalledBy : Named → Work → WorkToken → ℕ → Head → Option Gathered → Type 0
+IsCalledBy ms w t place h o =
+    MatchOption o (h ≡ Stands (seen w.arena t) (rest_of w))
+    (λ g. IsCalled ms w t place g.ends.items g.lacks_rest h)
+
 -- a head is what was found (own)
 abbrev pub IsHeading : Named → Work → WorkToken → Head → Heading → Type 0
 IsHeading ms w t h headings.Stands = h ≡ Stands (seen w.arena t) (rest_of w)
@@ -89,5 +103,4 @@ IsHeading ms w t h (headings.Asks is_defined height) =
     (w.floor ≤ height) × (height ≤ length w.row.tokens.items)
     × (h ≡ Stands (answer_token (seen w.arena t) is_defined) (between w.floor height (row_of w)))
 IsHeading ms w t h (headings.Object place) = (place < length ms) × (h ≡ named_call ms w t place)
-IsHeading ms w t h (headings.Function place g) =
-    IsEnded ms w place g.ends.items × IsCalled ms w t place g.ends.items g.lacks_rest h
+IsHeading ms w t h (headings.Function place) = IsOpened ms w t place h

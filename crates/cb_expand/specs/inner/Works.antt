@@ -15,7 +15,7 @@ use Rattle.cb_macro.specs.Definitions.{Definition}
 use Rattle.cb_macro.specs.Parts.{parts}
 use Rattle.cb_expand.specs.Heads.{Named, Insertion, put}
 use Rattle.cb_expand.specs.inner.Machine.{Pending, State, At, Between, Completes, Steps}
-use Rattle.cb_expand.specs.inner.Rows.{between, signs, IsRow}
+use Rattle.cb_expand.specs.inner.Rows.{between, signs, AreEnds}
 
 -- the parts of the macro in a place (own)
 abbrev pub parts_of : Option (List ℕ × Definition) → List Part
@@ -118,7 +118,7 @@ CanResume macros w (Some c) =
 
 -- a state from which the machine can go on (own)
 pub record IsWork (macros : ℕ) (w : Work) (c : Option Call) : Type 0 where
-  pub row : IsRow (signs w.row.tokens.items) w.row.ends.items
+  pub row : AreEnds (signs w.row.tokens.items) w.row.ends.items
   pub tokens : AreIn (length w.arena) w.row.tokens.items
   pub done : AreIn (length w.arena) w.done.items
   pub floor : w.floor ≤ length w.row.tokens.items
@@ -156,7 +156,7 @@ put_of ms sets place spaced extra args = put (insertion_of ms sets place spaced 
 pub record Added (old new : Work) (added : List Shaded) : Type 0 where
   pub arena : Extends old.arena new.arena
   pub row : row_of new ≡ row_of old ++ reverse added
-  pub kept : IsRow (signs new.row.tokens.items) new.row.ends.items
+  pub kept : AreEnds (signs new.row.tokens.items) new.row.ends.items
   pub tokens : AreIn (length new.arena) new.row.tokens.items
   pub floor : new.floor ≡ old.floor
   pub frames : new.frames ≡ old.frames
@@ -176,7 +176,7 @@ resumed ms w c = pending ms w.arena (row_of w) c [] (length (row_of w) + 1) w.fl
 
 -- a call for which tokens can be put in (own)
 pub record IsReplaceable (macros : ℕ) (w : Work) (c : Call) : Type 0 where
-  pub row : IsRow (signs w.row.tokens.items) w.row.ends.items
+  pub row : AreEnds (signs w.row.tokens.items) w.row.ends.items
   pub tokens : AreIn (length w.arena) w.row.tokens.items
   pub done : AreIn (length w.arena) w.done.items
   pub floor : w.floor ≤ length w.row.tokens.items

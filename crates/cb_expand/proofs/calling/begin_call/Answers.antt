@@ -55,7 +55,7 @@ returns-clause-taken c = λ mode ca.
       goes = record {
         cost = 0;
         steps = begun_steps ms mode w c.args.token.now y c.args.place c.at-body.result.now sets x c.in_ok-hides.hides us es c.args.gathered.lacks_rest (reverse c.in_ok-left.left.items) c.requires.work c.at-body.ensures en ca yi c.in_ok-hides.ensures.places l u
-            c.new.result.items c.new.ensures.items;
+            c.in_ok-arguments.arguments.items c.in_ok-arguments.ensures.items;
         sum = omega arith;
       };
       kept = record {
@@ -69,7 +69,7 @@ returns-clause-taken c = λ mode ca.
           record {
             place = en.placed;
             hides = c.in_ok-hides.ensures.within;
-            arguments = subst (λ (xs : List Argument). AreArgumentsIn (length sets) xs) (sym c.new.ensures.items) tt;
+            arguments = subst (λ (xs : List Argument). AreArgumentsIn (length sets) xs) (sym c.in_ok-arguments.ensures.items) tt;
             left = left_by ms mode w c.args.token.now y c.args.place c.at-body.result.now sets x c.in_ok-hides.hides us es c.args.gathered.lacks_rest (reverse c.in_ok-left.left.items) c.requires.work c.at-body.ensures en ca yi c.in_ok-hides.ensures.places l u
                 (length sets) (in_more (length w.arena) (length sets) more ts c.requires.work.tokens);
           },

@@ -16,7 +16,7 @@ left_of-requires-clause-from c =
 pub ends-init : goal.ends-init
 ends-init c = record {
   within = omega arith;
-  left = lefts_none _ _ _ _ _ _ (drop_all (length c.args.ends.now) c.args.ends.now (omega arith)) c.new-lefts.ensures.items;
+  left = lefts_none _ _ _ _ _ _ (drop_all (length c.args.ends.now) c.args.ends.now (omega arith)) c.in_ok-lefts.ensures.items;
 }
 
 pub ends-preserved : goal.ends-preserved

@@ -1,4 +1,4 @@
-use Rattle.std.proofs.Common.{◌+◌, suc, List, [], ◌∷◌, ap, sym, subst, arith}
+use Rattle.std.proofs.Common.{[], ◌∷◌, ap, sym, subst, arith}
 use Rattle.std.proofs.lemmas.List.{take_rest, append-nil}
 use Rattle.cb_tokens.specs.declared.token.Token.{Token}
 use Rattle.cb_tokens.specs.declared.token.TokenKind.TheVariants as kinds

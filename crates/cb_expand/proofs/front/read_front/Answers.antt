@@ -1,4 +1,4 @@
-use Rattle.std.proofs.Common.{◌+◌, sym, subst, arith}
+use Rattle.std.proofs.Common.{sym, subst, arith}
 use Rattle.std.proofs.lemmas.List.{take_rest}
 use Rattle.cb_expand.specs.inner.Fronts.{AreRead}
 use Rattle.cb_expand.proofs.Fronts.{none_read, read_on}

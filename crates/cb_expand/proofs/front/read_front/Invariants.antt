@@ -1,4 +1,4 @@
-use Rattle.std.proofs.Common.{◌≤◌, ◌-◌, length}
+use Rattle.std.proofs.Common.{◌-◌, length}
 use Rattle.cb_expand.specs.inner.Fronts.{AreRead}
 use Rattle.cb_expand.proofs.front.read_front.Given as goal
 

@@ -1,4 +1,4 @@
-use Rattle.std.proofs.Common.{◌≡◌, ap, sym, ◌∙◌, subst, false, Some, IfOk, rules}
+use Rattle.std.proofs.Common.{◌≡◌, ap, sym, ◌∙◌, subst, false, Some, rules}
 use Rattle.std.specs.Prelude.{slice_get}
 use Rattle.cb_macro.specs.Maps.{found_at}
 use Rattle.cb_paste.specs.Sets.{hides}
@@ -20,4 +20,4 @@ returns-then-is_function c =
     ap (found_at ms) (sym c.as_slice.ensures) ∙ found_by (slice_get ms place) _ place c.at-body.result.now c.in-Some.ensures.found c.at-body.ensures in
     let h : hides w.arena t.hides place ≡ false = ap (hides w.arena t.hides) (sym c.in_ok-small.ensures) ∙ (sym c.has.ensures ∙ c.if-has.false) in
     let g = function_named ms (seen w.arena t) (rest_of w) place c.at-body.result.now e f h (sym c.is_function.ensures ∙ c.if-is_function.true) in
-    subst (λ h. IfOk c.function_heading.result (IsHeading ms w t h)) (sym g) (c.function_heading.ensures ms t c.in-Some.ensures.place c.at-body.ensures)
+    subst (λ h. IsHeading ms w t h c.function_heading.result) (sym g) (c.function_heading.ensures ms t c.at-body.result.now c.in-Some.ensures.place c.at-body.ensures)

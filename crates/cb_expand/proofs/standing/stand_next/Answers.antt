@@ -2,7 +2,7 @@ use Rattle.std.proofs.Common.{◌≡◌, ◌∷◌, [], length, ap, sym, ◌∙�
 use Rattle.cb_tokens.specs.Kinds.{is_identifier_kind}
 use Rattle.cb_paste.specs.Shades.{seen}
 use Rattle.cb_expand.specs.declared.work.Work.{Work}
-use Rattle.cb_expand.specs.inner.Rows.{signs, IsRow}
+use Rattle.cb_expand.specs.inner.Rows.{signs, AreEnds}
 use Rattle.cb_expand.specs.inner.Readings.{reading, rest_of}
 use Rattle.cb_expand.specs.inner.Works.{state_of}
 use Rattle.cb_expand.proofs.Headings.{head_by, asked_by_kind, no_name}
@@ -25,7 +25,7 @@ returns-clause-stood c = λ ms mode h.
     read_step ms mode w p c.stand.new.work t None s refl (omega (arith, l)) a
 
 pub returns-clause-row : goal.returns-clause-row
-returns-clause-row c = subst (λ r. IsRow (signs r.tokens.items) r.ends.items) (sym c.in_ok-stand.ensures.row) c.pop.ensures.kept
+returns-clause-row c = subst (λ r. AreEnds (signs r.tokens.items) r.ends.items) (sym c.in_ok-stand.ensures.row) c.pop.ensures.kept
 
 pub returns-clause-fewer : goal.returns-clause-fewer
 returns-clause-fewer c =

@@ -1,6 +1,5 @@
-use Rattle.std.proofs.Common.{◌≡◌, ◌++◌, length, sym, ◌∙◌, ap, subst, arith, List, refl}
+use Rattle.std.proofs.Common.{◌≡◌, ◌++◌, sym, ◌∙◌, ap, subst, arith, List, refl}
 use Rattle.std.specs.Prelude.{reverse, slice_get}
-use Rattle.cb_paste.specs.Shades.{AreIn}
 use Rattle.std.proofs.Common.{Result, Err}
 use Rattle.cb_expand.specs.declared.fault.ExpandFault.{ExpandFault}
 use Rattle.cb_expand.specs.declared.fault.ExpandFault.TheVariants.{TooLong}
@@ -23,16 +22,6 @@ returns-in-Err-clause-long c = λ q.
     let h = c.substitute-added.ensures.long (rw t at c.in-Err.is) in
     omega (arith, l, h.0, c.len.ensures, a.work.now.frames.ok.0)
 
-pub keep_ends-requires : goal.keep_ends-requires
-keep_ends-requires c =
-    let a = c.args in
-    let w = a.work.now in
-    let e = parts_are (slice_get a.macros.now a.place) c.at.result.now c.parts-parts.result.now c.at.ensures c.parts-parts.ensures in
-    let p = put_is a.macros.now w.arena a.place a.spaced a.hides a.arguments.now c.parts-parts.result.now e in
-    let r = rows_grow w.arena c.substitute-added.new.arena w.row.tokens.items c.substitute-added.new.stack.items _ c.in-Ok.ensures.put in
-    let s = signs_grow w.arena c.substitute-added.new.arena w.row.tokens.items c.substitute-added.new.stack.items _ r in
-    subst (λ (ss : List Sign). AreEnds ss w.row.ends.items) (sym s) (ends_more _ _ _ c.requires.row.ends)
-
 pub returns-clause-added : goal.returns-clause-added
 returns-clause-added c =
     let a = c.args in
@@ -41,12 +30,12 @@ returns-clause-added c =
     let p = put_is a.macros.now w.arena a.place a.spaced a.hides a.arguments.now c.parts-parts.result.now e in
     let l = length_put a.macros.now w.arena a.place a.spaced a.hides a.arguments.now c.parts-parts.result.now e in
     let r = rows_grow w.arena c.substitute-added.new.arena w.row.tokens.items c.substitute-added.new.stack.items _ c.in-Ok.ensures.put in
-    let k = c.in_ok-keep_ends.ensures in
+    let s = signs_grow w.arena c.substitute-added.new.arena w.row.tokens.items c.substitute-added.new.stack.items _ r in
     record {
       arena = c.in-Ok.ensures.kept;
-      row = ap (λ v. seen_all c.substitute-added.new.arena v.items) k.tokens ∙ (r ∙ ap (λ xs. seen_all w.arena w.row.tokens.items ++ reverse xs) (sym p));
-      kept = k.kept;
-      tokens = subst (λ v. AreIn (length c.substitute-added.new.arena) v.items) (sym k.tokens) c.in-Ok.ensures.within;
+      row = r ∙ ap (λ xs. seen_all w.arena w.row.tokens.items ++ reverse xs) (sym p);
+      kept = subst (λ (ss : List Sign). AreEnds ss w.row.ends.items) (sym s) (ends_more _ _ _ c.requires.row);
+      tokens = c.in-Ok.ensures.within;
       floor = refl;
       frames = refl;
       done = refl;
