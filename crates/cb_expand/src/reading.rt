@@ -44,7 +44,7 @@ fn replace_name(
         return Err(ExpandFault::TooLong);
     }
     let hides = work.arena.with(token.hides, small(place)?)?;
-    put_in(alloc, macros, work, place, &[], token.spaced, hides)
+    put_in(alloc, macros, work, place, &mut [], token.spaced, hides)
 }
 
 /// Lets a token stand that was read.

@@ -33,19 +33,19 @@ pub(crate) fn put_in(
     macros: &Macros,
     work: &mut Work,
     place: usize,
-    arguments: &[Argument],
+    arguments: &mut [Argument],
     spaced: bool,
     hides: u32,
 ) -> Result<(), ExpandFault>
     requires place { place < length macros.now }
-    requires arguments { AreArgumentsIn (length work.old.arena) arguments.now }
+    requires arguments { AreArgumentsIn (length work.old.arena) arguments.old }
     requires hides { hides ≤ length work.old.arena }
     requires tokens { AreIn (length work.old.arena) work.old.row.tokens.items }
     requires row { AreEnds (signs work.old.row.tokens.items) work.old.row.ends.items }
     requires limit { work.old.used + length work.old.frames.items < 65536 }
-    ensures added { OnOk result (Added work.old work.new (put_of macros.now work.old.arena place spaced hides arguments.now)) }
+    ensures added { OnOk result (Added work.old work.new (put_of macros.now work.old.arena place spaced hides arguments.old)) }
     ensures long { result ≡ Err ExpandFault.TooLong
-        → 65536 < work.old.used + length work.old.frames.items + (1 + length (put_of macros.now work.old.arena place spaced hides arguments.now)) }
+        → 65536 < work.old.used + length work.old.frames.items + (1 + length (put_of macros.now work.old.arena place spaced hides arguments.old)) }
 {
     let parts = macros.at(place).parts();
     let room = COST_LIMIT - 1 - work.used - work.frames.len();
@@ -131,13 +131,13 @@ fn replace(alloc: Global, macros: &Macros, work: &mut Work, call: Call) -> Resul
         left: _left,
         lacks_rest,
     } = call;
-    let arguments = all_arguments(alloc, arguments, lacks_rest)?;
+    let mut arguments = all_arguments(alloc, arguments, lacks_rest)?;
     put_in(
         alloc,
         macros,
         work,
         place,
-        arguments.as_slice(),
+        arguments.as_mut_slice(),
         spaced,
         hides,
     )
