@@ -8,4 +8,5 @@ pub mod Copies
 pub mod Moves
 pub mod Stacks
 pub mod Names
+pub mod Unglued
 pub mod Placed

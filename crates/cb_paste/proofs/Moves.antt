@@ -1,7 +1,7 @@
 -- Arguments that are taken, and those that stay.
-use Rattle.std.proofs.Common.{◌≡◌, ℕ, zero, suc, ◌+◌, ◌<◌, ◌≤◌, ◌==◌, ◌||◌, Bool, true, false, not, List, [], ◌∷◌, ◌++◌, length, map, drop, set, get_or, refl, sym, ◌∙◌, ap, subst, inl, inr, arith, append_assoc}
+use Rattle.std.proofs.Common.{◌≡◌, ℕ, zero, suc, ◌+◌, ◌<◌, ◌==◌, ◌||◌, Bool, true, false, not, List, [], ◌∷◌, length, map, drop, set, get_or, refl, sym, ◌∙◌, ap}
 use Rattle.std.specs.List.{list_any}
-use Rattle.std.proofs.lemmas.Bool.{false≢true, ne_eqb, eqb-true, eq-eqb, or_right, true_from_ne_false, cases_eq, not-true, not-false, both_ways}
+use Rattle.std.proofs.lemmas.Bool.{eqb-true, eq-eqb, or_right, true_from_ne_false, not-true, not-false, both_ways}
 use Rattle.std.proofs.lemmas.List.{drop_more, map-set, get_or-set_other}
 use Rattle.cb_paste.specs.declared.argument.Argument.{Argument}
 use Rattle.cb_paste.specs.declared.part.Part.{Part}
@@ -9,9 +9,7 @@ use Rattle.cb_paste.specs.declared.part.Shape.{Shape}
 use Rattle.cb_paste.specs.declared.part.Shape.TheVariants.{Fixed, Parameter, Quoted}
 use Rattle.cb_paste.specs.Sets.{Extends}
 use Rattle.cb_paste.specs.Shades.{AreIn}
-use Rattle.cb_paste.specs.Strings.{quoted}
-use Rattle.cb_paste.specs.Joins.{Real}
-use Rattle.cb_paste.specs.Puts.{Given, seen_argument, given_at, AreArgumentsIn, own_token, parameter_puts, shape_puts}
+use Rattle.cb_paste.specs.Puts.{Given, seen_argument, given_at, AreArgumentsIn, parameter_puts, shape_puts}
 use Rattle.cb_paste.specs.inner.Uses.{has_parameter, is_used, Kept}
 use Rattle.cb_paste.proofs.Copies.{arguments_kept}
 

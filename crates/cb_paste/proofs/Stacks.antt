@@ -1,7 +1,7 @@
 -- Tokens on the stack, in the order in which they are read.
-use Rattle.std.proofs.Common.{◌≡◌, ℕ, ◌≤◌, Bool, List, [], ◌∷◌, ◌++◌, length, map, reverse, refl, sym, ◌∙◌, ap, append_assoc}
+use Rattle.std.proofs.Common.{◌≡◌, ℕ, zero, suc, ◌+◌, ◌<◌, ◌≤◌, Bool, List, [], ◌∷◌, ◌++◌, length, map, take, set, get_or, reverse, refl, sym, ◌∙◌, ap, subst, arith, append_assoc}
 use Rattle.std.proofs.Math.Path.{fun_ext}
-use Rattle.std.proofs.lemmas.List.{append-nil, map_push, map-append, reverse-append}
+use Rattle.std.proofs.lemmas.List.{append-nil, map_push, map-append, reverse-append, take_all, take_more, set_split, drop_all}
 use Rattle.cb_paste.specs.declared.work_token.WorkToken.{WorkToken}
 use Rattle.cb_paste.specs.declared.slots.Slot.{Slot}
 use Rattle.cb_paste.specs.Sets.{hides, Extends}
@@ -9,7 +9,7 @@ use Rattle.cb_paste.specs.Shades.{Shaded, seen, waiting, shaded, all_shaded, fir
 use Rattle.cb_paste.specs.Joins.{real_of, reals}
 use Rattle.cb_paste.specs.inner.Slots.{seen_slot, IsSlotIn}
 use Rattle.cb_paste.proofs.Arenas.{hides_kept}
-use Rattle.cb_paste.proofs.Standing.{seen_all_kept, slot_kept}
+use Rattle.cb_paste.proofs.Standing.{seen_kept, seen_all_kept, slot_kept}
 use Rattle.cb_paste.proofs.Counts.{reals-append}
 
 pub waiting_push : (sets : List (List ℕ)) (ts : List WorkToken) (t : WorkToken) → waiting sets (ts ++ t ∷ []) ≡ seen sets t ∷ waiting sets ts
@@ -46,3 +46,37 @@ stack_step {a} {b} e extra h front s o old new is =
 pub space_all : (extra : ℕ → Bool) (spaced : Bool) (ts old : List Shaded) → (length ts ≡ 0 → ⊥) → first_spaced spaced (all_shaded extra ts ++ old) ≡ all_shaded extra (first_spaced spaced ts) ++ old
 space_all extra spaced [] old ne = absurd (ne refl)
 space_all extra spaced (t ∷ ts) old ne = refl
+
+-- one more token lies on the stack
+pub token_step : {a b : List (List ℕ)} → Extends a b → (extra : ℕ) → extra ≤ length a → (front : List WorkToken) (t : WorkToken) → t.hides ≤ length a → (old new : List Shaded) → new ≡ shaded (hides b extra) (seen b t) ∷ old → all_shaded (hides a extra) (map (seen a) front) ++ new ≡ all_shaded (hides a extra) (map (seen a) (front ++ t ∷ [])) ++ old
+token_step {a} {b} e extra h front t o old new is =
+    ap (λ l. all_shaded (hides a extra) (map (seen a) front) ++ l) (is ∙ (ap (λ f. shaded f (seen b t) ∷ old) (hides_same e extra h) ∙ ap (λ u. shaded (hides a extra) u ∷ old) (seen_kept e t o)))
+    ∙ (sym (append_assoc (all_shaded (hides a extra) (map (seen a) front)) (shaded (hides a extra) (seen a t) ∷ []) old)
+    ∙ ap (λ l. l ++ old)
+    (sym (map_push (shaded (hides a extra)) (map (seen a) front) (seen a t))
+    ∙ ap (λ l. all_shaded (hides a extra) l) (sym (map_push (seen a) front t))))
+
+-- the last token with such white space is the next one to be read
+pub space_last : (sets : List (List ℕ)) (ts : List WorkToken) (k : ℕ) (spaced : Bool) (d : WorkToken) → k + 1 ≡ length ts → waiting sets (set ts k (record (get_or ts k d) { spaced = spaced })) ≡ first_spaced spaced (waiting sets ts)
+space_last sets ts k spaced d h =
+    let t : WorkToken = get_or ts k d in
+    let u : WorkToken = record t { spaced = spaced } in
+    let split : ts ≡ take k ts ++ t ∷ [] = sym (take_all (k + 1) ts (omega arith)) ∙ take_more ts k d (omega arith) in
+    let made : set ts k u ≡ take k ts ++ u ∷ [] = set_split ts k u (omega arith) ∙ ap (λ l. take k ts ++ u ∷ l) (drop_all (suc k) ts (omega arith)) in
+    ap (λ l. waiting sets l) made
+    ∙ (waiting_push sets (take k ts) u
+    ∙ sym (ap (λ l. first_spaced spaced (waiting sets l)) split ∙ ap (λ l. first_spaced spaced l) (waiting_push sets (take k ts) t)))
+
+pub in_at : (n : ℕ) (ts : List WorkToken) (k : ℕ) (t : WorkToken) → k < length ts → t ≡ get_or ts k t → AreIn n ts → t.hides ≤ n
+in_at n [] k t h e o = absurd (omega arith)
+in_at n (u ∷ us) zero t h e o = subst (λ v. v.hides ≤ n) (sym e) o.0
+in_at n (u ∷ us) (suc k) t h e o = in_at n us k t (omega arith) e o.1
+
+pub in_set : (n : ℕ) (ts : List WorkToken) (k : ℕ) (t : WorkToken) → t.hides ≤ n → AreIn n ts → AreIn n (set ts k t)
+in_set n [] k t h o = tt
+in_set n (u ∷ us) zero t h o = (h, o.1)
+in_set n (u ∷ us) (suc k) t h o = (o.0, in_set n us k t h o.1)
+
+pub take_back : (ts : List WorkToken) (k at : ℕ) (t : WorkToken) → k + 1 ≡ at → k < length ts → t ≡ get_or ts k t → take k ts ++ t ∷ [] ≡ take at ts
+take_back ts k at t h l e =
+    sym (ap (λ n. take n ts) (sym h) ∙ (take_more ts k t l ∙ ap (λ u. take k ts ++ u ∷ []) (sym e)))

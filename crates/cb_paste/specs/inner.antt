@@ -5,3 +5,4 @@ pub mod Slots
 pub mod Glued
 pub mod Given
 pub mod Uses
+pub mod Plain

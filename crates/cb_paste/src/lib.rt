@@ -10,10 +10,12 @@ mod joining;
 mod moving;
 mod part;
 mod placing;
+mod plain;
 mod putting;
 mod quoting;
 mod site;
 mod slots;
+mod stacking;
 mod substitution;
 mod work_token;
 

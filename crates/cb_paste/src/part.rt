@@ -1,6 +1,7 @@
 //! Parts of replacement lists.
 ghost use Rattle.std.specs.Prelude.{◌≡◌, ◌+◌, ◌<◌, ◌||◌, true, false, length, drop};
 ghost use Rattle.cb_paste.specs.Puts.{next_glued};
+ghost use Rattle.cb_paste.specs.inner.Plain.{is_plain};
 ghost use Rattle.cb_paste.specs.inner.Uses.{has_parameter, is_used};
 
 use cb_paths::Bytes;
@@ -47,6 +48,13 @@ pub(crate) fn is_beside(parts: &[Part], at: usize) -> bool
         return true;
     }
     is_glued(parts, at + 1)
+}
+
+/// Whether no `##` stands in a replacement list.
+pub(crate) fn is_plain(parts: &[Part]) -> bool
+    ensures { result ≡ is_plain parts.now }
+{
+    parts.iter().all(|part| !part.glued)
 }
 
 /// In how many parts a further use of an argument is looked for. Without a bound a long list would take the square of its

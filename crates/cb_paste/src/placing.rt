@@ -11,7 +11,8 @@ use crate::work_token::WorkToken;
 use cb_paths::NoMemory;
 
 /// Puts a token onto the stack, with another hide set joined to its own.
-fn push_token(
+#[inline(always)]
+pub(crate) fn push_token(
     arena: &mut Hides,
     token: WorkToken,
     extra: u32,
@@ -84,16 +85,14 @@ pub(crate) fn push_slots(
 }
 
 /// Gives the next token of the stack such white space.
-pub(crate) fn space_first(stack: &mut Vec<WorkToken>, spaced: bool) -> Result<(), NoMemory>
-    ensures put { OnOk result ((sets : List (List ℕ)) → waiting sets stack.new.items
-        ≡ first_spaced spaced (waiting sets stack.old.items)) }
-    ensures within { OnOk result ((count : ℕ) → AreIn count stack.old.items → AreIn count stack.new.items) }
+pub(crate) fn space_first(stack: &mut Vec<WorkToken>, spaced: bool)
+    ensures put { (sets : List (List ℕ)) → waiting sets stack.new.items
+        ≡ first_spaced spaced (waiting sets stack.old.items) }
+    ensures within { (count : ℕ) → AreIn count stack.old.items → AreIn count stack.new.items }
 {
-    match stack.pop() {
-        None => Ok(()),
-        Some(token) => {
-            stack.push(token.with_space(spaced))?;
-            Ok(())
-        }
+    let count = stack.len();
+    if count == 0 {
+        return;
     }
+    stack[count - 1].spaced = spaced;
 }
