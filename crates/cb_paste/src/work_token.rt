@@ -14,10 +14,10 @@ pub struct WorkToken {
     pub kind: TokenKind,
     /// Whether white space stands before it.
     pub spaced: bool,
+    /// Its hide set, by the place in an arena `Hides`. It lies beside the two small ones, so that a token takes 24 bytes.
+    pub hides: u32,
     /// Its bytes.
     pub text: Bytes,
-    /// Its hide set, by the place in an arena `Hides`.
-    pub hides: u32,
 }
 
 impl WorkToken {
