@@ -7,7 +7,11 @@ pub mod SourceFaults
 pub mod KeptDatabases
 pub mod KeptSources
 pub mod EntryCounts
+pub mod PutEntries
 pub mod KeptReadings
 pub mod SourceEdits
+pub mod FileEdits
+pub mod DatabaseEdits
+pub mod DatabasePuts
 pub mod OneKnown
 pub mod OneOutcome

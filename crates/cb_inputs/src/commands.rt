@@ -1,12 +1,16 @@
 //! The commands of an analysis.
 ghost use Rattle.std.specs.Prelude.{◌≡◌, ◌≤◌, Some, length, sum_by, IfOk};
 ghost use Rattle.std.specs.Option.{option_copied};
+ghost use Rattle.std.specs.BTreeMap.{insert_entry};
+ghost use Rattle.std.specs.Ordering.{nat_cmp};
+ghost use Rattle.std.specs.Cmp.Lexicographic.{slice_cmp};
 ghost use Rattle.cb_paths.specs.Paths.{folder_at};
 ghost use Rattle.cb_analysis.specs.declared.platform.Platform.{Platform as Spec};
 ghost use Rattle.cb_inputs.specs.Commands.{command_count, entries_at, makes, root_of};
-ghost use Rattle.cb_inputs.specs.Databases.{database_entries};
+ghost use Rattle.cb_inputs.specs.Databases.{database_entries, IsReadDatabase};
 ghost use Rattle.cb_inputs.specs.Readings.{Known};
 
+use crate::database::Database;
 use crate::databases::Databases;
 use cb_analysis::{Analysis, Platform};
 use cb_compdb::{Entry, Made, command};
@@ -124,6 +128,60 @@ pub fn command_count(analysis: Option<&Analysis>, databases: &Databases) -> u64
 {
     match analysis {
         Some(analysis) => entry_sum(analysis.platforms(), databases),
+        None => 0,
+    }
+}
+
+/// The number of the entries of the database at a path, where `fresh` stands at `key`; none where there is no
+/// database.
+fn entry_count_with(databases: &Databases, key: &Path, fresh: &Database, path: &Path) -> u64
+    requires read { IsReadDatabase fresh.now }
+    ensures count { result ≡ length
+        (entries_at (database_entries (insert_entry (slice_cmp nat_cmp) databases.now key.now fresh.now)) path.now) }
+    ensures few { result ≤ 20000 }
+{
+    if path == key {
+        return fresh.entries.len() as u64;
+    }
+    entry_count(databases, path)
+}
+
+/// The number of the entries of all platforms' databases, where `fresh` stands at `key`.
+fn entry_sum_with(
+    platforms: &[Platform],
+    databases: &Databases,
+    key: &Path,
+    fresh: &Database,
+) -> u64
+    requires few { length platforms.now ≤ 32 }
+    requires read { IsReadDatabase fresh.now }
+    ensures { result
+        ≡ sum_by (λ (platform : Spec). length
+        (entries_at (database_entries (insert_entry (slice_cmp nat_cmp) databases.now key.now fresh.now))
+        platform.commands)) platforms.now }
+{
+    let mut sum = 0;
+    'platforms: for platform in platforms {
+        sum += entry_count_with(databases, key, fresh, &platform.commands);
+    }
+    sum
+}
+
+/// The number of the commands of an analysis that may be missing, where `fresh` stands at `key` in the place of the
+/// database that stood there.
+pub(crate) fn command_count_with(
+    analysis: Option<&Analysis>,
+    databases: &Databases,
+    key: &Path,
+    fresh: &Database,
+) -> u64
+    requires { IsReadDatabase fresh.now }
+    ensures { (known : Known) → option_copied analysis.entry ≡ known.analysis
+        → database_entries (insert_entry (slice_cmp nat_cmp) databases.now key.now fresh.now) ≡ known.databases
+        → result ≡ command_count known }
+{
+    match analysis {
+        Some(analysis) => entry_sum_with(analysis.platforms(), databases, key, fresh),
         None => 0,
     }
 }

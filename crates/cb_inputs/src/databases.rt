@@ -1,8 +1,8 @@
 //! The databases by their paths.
-ghost use Rattle.std.specs.Prelude.{◌≡◌, ◌⊎◌, ◌≤◌, [], ◌∷◌, None, Some, length, All, IfOk, IfErr, IfSome, OnOk, OnErr, option_map, is_some, true, ◌↔◌};
+ghost use Rattle.std.specs.Prelude.{◌≡◌, ◌⊎◌, ◌≤◌, ℕ, [], ◌∷◌, None, Some, length, All, IfOk, IfErr, IfSome, OnOk, OnErr, option_map, is_some, true, ◌↔◌};
 ghost use Rattle.std.specs.Option.{option_copied};
-ghost use Rattle.std.specs.BTreeMap.{insert_entry};
-ghost use Rattle.std.specs.Map.{keys_of, values_of};
+ghost use Rattle.std.specs.BTreeMap.{insert_entry, is_at};
+ghost use Rattle.std.specs.Map.{keys_of, values_of, remove_entry};
 ghost use Rattle.std.specs.List.Sorted.{IsStrictlySortedBy};
 ghost use Rattle.std.specs.Ordering.{nat_cmp};
 ghost use Rattle.std.specs.Cmp.Lexicographic.{slice_cmp};
@@ -12,7 +12,8 @@ ghost use Rattle.cb_outside.specs.declared.kept.Table.TheVariants as table;
 ghost use Rattle.cb_inputs.specs.Texts.{bytes_in, database_amounts, first_over, value_at};
 ghost use Rattle.cb_inputs.specs.Refusals.{IsDatabaseFault, IsDenied, IsOutside};
 ghost use Rattle.cb_inputs.specs.Databases.{database_texts, IsReadDatabase};
-ghost use Rattle.cb_inputs.specs.inner.Kept.{AreDatabases, TellsPut};
+ghost use Rattle.cb_inputs.specs.inner.Kept.{AreDatabases, SaysEntries, TellsPut};
+ghost use Rattle.cb_inputs.specs.declared.refused.LimitName.{LimitName as Name};
 ghost use Rattle.cb_inputs.specs.declared.refused.Refused.{Refused as Refusal};
 
 use crate::database::{Database, read_database};
@@ -46,9 +47,12 @@ impl Model for Databases {
 /// A database that is ready to be put, with the bytes that all databases together would have.
 #[derive(Drop)]
 pub(crate) struct FreshDatabase {
-    key: Path,
-    database: Database,
-    total: u64,
+    /// Its path.
+    pub(crate) key: Path,
+    /// The database.
+    pub(crate) database: Database,
+    /// The bytes of all databases together.
+    pub(crate) total: u64,
 }
 
 /// How much there would be with these bytes at a path.
@@ -209,6 +213,7 @@ impl Databases {
         ensures sound { OnOk result ((refused : Refusal)
             → IsDenied (IsDatabaseFault bytes.now)
             (database_amounts (put path.now bytes.now (database_texts self.now))) refused → ⊥) }
+        ensures before_limits { (name : Name) (n : ℕ) → result ≡ Err (Refused.Limit name n) → SaysEntries bytes.now }
     {
         let database = match read_database(alloc, bytes) {
             Ok(database) => database,
@@ -245,6 +250,8 @@ impl Databases {
         requires few { length (put path.now bytes.now (database_texts self.old)) ≤ 64 }
         requires within { bytes_in (put path.now bytes.now (database_texts self.old)) ≤ 268435456 }
         ensures accepted { OnOk result (database_texts self.new ≡ put path.now bytes.now (database_texts self.old)) }
+        ensures entries { OnOk result
+            (self.new ≡ insert_entry (slice_cmp nat_cmp) self.old path.now fresh.database) }
         ensures unchanged { OnErr result (self.new ≡ self.old) }
         ensures cause { IfErr result IsOutside }
         ensures kept { OnOk result
@@ -303,6 +310,7 @@ impl Databases {
     /// databases and what is kept are as they were.
     pub fn remove<K: Keeper>(&mut self, keeper: &mut K, path: &Path) -> Result<(), Refused>
         ensures accepted { OnOk result (database_texts self.new ≡ removed path.now (database_texts self.old)) }
+        ensures entries { OnOk result (self.new ≡ remove_entry (is_at (slice_cmp nat_cmp path.now)) self.old) }
         ensures unchanged { OnErr result (self.new ≡ self.old) }
         ensures absent { (result ≡ Err Refused.Absent) ↔ (value_at path.now self.old ≡ None) }
         ensures cause { IfErr result (λ refused. IsOutside refused ⊎ (refused ≡ Refused.Absent)) }

@@ -74,6 +74,16 @@ impl AnalysisFile {
         self.kept.as_ref()
     }
 
+    /// What it says, if there is one.
+    pub(crate) fn contents(&self) -> Option<&Analysis>
+        ensures { option_copied result ≡ option_map (λ (kept : Known). kept.contents) self.now }
+    {
+        match &self.kept {
+            Some(kept) => Some(&kept.contents),
+            None => None,
+        }
+    }
+
     /// An analysis file that is ready to be put. It is refused for the first fault of the bytes, or where memory runs
     /// out.
     pub(crate) fn fresh(alloc: Global, bytes: &[u8]) -> Result<KeptAnalysis, Refused>

@@ -166,6 +166,7 @@ impl Sources {
     pub fn len(&self) -> usize
         ensures count { result ≡ length self.now }
         ensures few { length self.now ≤ 20000 }
+        ensures within { bytes_in (source_texts self.now) ≤ 268435456 }
         ensures rising { IsStrictlySortedBy (slice_cmp nat_cmp) (keys_of self.now) }
         ensures read { All IsReadSource (values_of self.now) }
     {

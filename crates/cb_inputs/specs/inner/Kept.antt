@@ -1,6 +1,8 @@
 -- What the maps of inputs keep. No public clause names these words.
 use Rattle.std.specs.Prelude.{◌≡◌, ℕ, ◌≤◌, List, length, All, Option, option_map}
 use Rattle.std.specs.Map.{values_of}
+use Rattle.cb_compdb.specs.declared.entry.Entry.{Entry}
+use Rattle.cb_compdb.specs.Databases.{IsDatabase}
 use Rattle.cb_inputs.specs.declared.database.Database.{Database}
 use Rattle.cb_inputs.specs.declared.source.Source.{Source}
 use Rattle.cb_inputs.specs.Sources.{source_texts, IsReadSource}
@@ -29,6 +31,10 @@ pub record AreSources (sources : ByPath Source) (total : ℕ) : Type 0 where
   pub counted : total ≡ bytes_in (source_texts sources)
   pub within : total ≤ 268435456
   pub read : All IsReadSource (values_of sources)
+
+-- bytes are a database: they have entries
+abbrev pub SaysEntries : List ℕ → Type 0
+SaysEntries bytes = (entries : List Entry) × IsDatabase bytes entries
 
 -- a put is refused before the keeper is called: for its inputs, or for want of memory
 abbrev pub TellsPut : (BodyFault → Type 0) → List (LimitName × ℕ) → Refused → Type 0

@@ -1,5 +1,6 @@
 use Rattle.std.proofs.Common.{◌∙◌, sym, ap, arith}
 use Rattle.std.specs.BTreeMap.{is_at}
+use Rattle.std.specs.Map.{remove_entry}
 use Rattle.std.specs.Ordering.{nat_cmp}
 use Rattle.std.specs.Cmp.Lexicographic.{slice_cmp}
 use Rattle.cb_outside.specs.Tables.{removed}
@@ -21,3 +22,7 @@ invariant_of-self g c =
 pub returns-in-Ok-clause-accepted : goal.returns-in-Ok-clause-accepted
 returns-in-Ok-clause-accepted g c =
     ap database_texts c.remove-in-Ok.ensures.entries ∙ (read_removed (λ (d : Database). d.bytes) (is_at (slice_cmp nat_cmp c.args.path.now)) c.self.inside.map.entries ∙ ap (λ es. removed c.args.path.now (database_texts es)) c.self.view_is)
+
+pub returns-in-Ok-clause-entries : goal.returns-in-Ok-clause-entries
+returns-in-Ok-clause-entries g c =
+    c.remove-in-Ok.ensures.entries ∙ ap (λ es. remove_entry (is_at (slice_cmp nat_cmp c.args.path.now)) es) c.self.view_is
