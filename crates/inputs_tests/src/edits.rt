@@ -107,31 +107,42 @@ const SOURCES: &[(Edit, &[u8], usize)] = &[
     (Edit::Remove(b"a.c"), b"not found", 1),
 ];
 
-/// The number of the first edit of sources that answers another text, or leaves another number of sources, where the
-/// second, fourth and sixth call of the keeper fail.
-fn wrong_source(alloc: Global, sources: &mut Sources) -> Result<Option<usize>, NoMemory> {
-    let mut keeper = MemKeeper::new(alloc, Numbers::from_slice(alloc, &[2, 4, 6])?);
+/// Whether an edit of sources answers the wanted text and leaves the wanted number of sources.
+fn is_source_edit(
+    alloc: Global,
+    sources: &mut Sources,
+    keeper: &mut MemKeeper,
+    row: &(Edit, &[u8], usize),
+) -> Result<bool, NoMemory> {
+    let answer = edit_sources(alloc, sources, keeper, row.0);
+    Ok(has_text(alloc, answer, row.1)? && sources.len() == row.2)
+}
+
+/// The number of the first edit of sources that answers another text, or leaves another number of sources.
+fn wrong_source(
+    alloc: Global,
+    sources: &mut Sources,
+    keeper: &mut MemKeeper,
+) -> Result<Option<usize>, NoMemory> {
     for (at, row) in SOURCES.iter().enumerate() {
-        let answer = edit_sources(alloc, sources, &mut keeper, row.0);
-        if !has_text(alloc, answer, row.1)? || sources.len() != row.2 {
+        if !is_source_edit(alloc, sources, keeper, row)? {
             return Ok(Some(at));
         }
     }
     Ok(None)
 }
 
-/// Whether the edits answer as they should, and leave the one source that they should.
-fn are_edited(alloc: Global) -> Result<bool, NoMemory> {
-    let mut sources = Sources::new(alloc);
-    if wrong_source(alloc, &mut sources)? != None {
-        return Ok(false);
-    }
-    has_source(alloc, &sources, b"b/c.h", b"#if A\nz;\n#endif\n", 3)
+/// Whether the edits answer as they should, where the second, fourth and sixth call of the keeper fail, and leave the one
+/// source that they should.
+fn are_edited(alloc: Global, sources: &mut Sources) -> Result<bool, NoMemory> {
+    let fails = Numbers::from_slice(alloc, &[2, 4, 6])?;
+    let wrong = wrong_source(alloc, sources, &mut MemKeeper::new(alloc, fails))?;
+    Ok(wrong.is_none() && has_source(alloc, sources, b"b/c.h", b"#if A\nz;\n#endif\n", 3)?)
 }
 
 #[test]
 fn sources_are_edited(rt: HostRuntime) -> Result<(), Fail> {
-    assert!(rt; are_edited(rt.alloc())?);
+    assert!(rt; are_edited(rt.alloc(), &mut Sources::new(rt.alloc()))?);
     Ok(())
 }
 
@@ -150,12 +161,20 @@ const DATABASES: &[(Edit, &[u8], usize)] = &[
     (Edit::Remove(b"one.json"), b"not found", 0),
 ];
 
+/// Whether an edit of databases answers the wanted text and leaves the wanted number of databases.
+fn is_database_edit(
+    alloc: Global,
+    databases: &mut Databases,
+    row: &(Edit, &[u8], usize),
+) -> Result<bool, NoMemory> {
+    let answer = edit_databases(alloc, databases, row.0);
+    Ok(has_text(alloc, answer, row.1)? && databases.len() == row.2)
+}
+
 /// The number of the first edit of databases that answers another text, or leaves another number of databases.
-fn wrong_database(alloc: Global) -> Result<Option<usize>, NoMemory> {
-    let mut databases = Databases::new(alloc);
+fn wrong_database(alloc: Global, databases: &mut Databases) -> Result<Option<usize>, NoMemory> {
     for (at, row) in DATABASES.iter().enumerate() {
-        let answer = edit_databases(alloc, &mut databases, row.0);
-        if !has_text(alloc, answer, row.1)? || databases.len() != row.2 {
+        if !is_database_edit(alloc, databases, row)? {
             return Ok(Some(at));
         }
     }
@@ -164,30 +183,51 @@ fn wrong_database(alloc: Global) -> Result<Option<usize>, NoMemory> {
 
 #[test]
 fn databases_are_edited(rt: HostRuntime) -> Result<(), Fail> {
-    assert_eq!(rt; wrong_database(rt.alloc())?, None);
+    assert_eq!(rt;
+        wrong_database(rt.alloc(), &mut Databases::new(rt.alloc()))?,
+        None
+    );
     Ok(())
 }
 
-/// Whether there is room for 64 databases and no more, and for another one in the place of one that stands there.
-fn has_room_for_64(alloc: Global) -> Result<bool, NoMemory> {
-    let mut databases = Databases::new(alloc);
+/// Whether a put of an empty database answers this text.
+fn is_put(
+    alloc: Global,
+    databases: &mut Databases,
+    path: &[u8],
+    expected: &[u8],
+) -> Result<bool, NoMemory> {
+    let path = path_of(alloc, path)?;
+    let answer = databases.put(alloc, &mut NoKeeper, &path, b"[]");
+    has_text(alloc, answer, expected)
+}
+
+/// Whether 64 databases can be put.
+fn are_64_put(alloc: Global, databases: &mut Databases) -> Result<bool, NoMemory> {
     for number in 0u8..64 {
-        let path = path_of(alloc, &[b'a' + number / 8, b'a' + number % 8])?;
-        let answer = databases.put(alloc, &mut NoKeeper, &path, b"[]");
-        if !has_text(alloc, answer, b"")? {
+        if !is_put(
+            alloc,
+            databases,
+            &[b'a' + number / 8, b'a' + number % 8],
+            b"",
+        )? {
             return Ok(false);
         }
     }
-    let again = edit_databases(alloc, &mut databases, Edit::Put(b"aa", b"[ ]"));
-    if !has_text(alloc, again, b"")? {
-        return Ok(false);
-    }
-    let more = edit_databases(alloc, &mut databases, Edit::Put(b"zz", b"[]"));
-    has_text(alloc, more, b"limit databases 65 64")
+    Ok(true)
+}
+
+/// Whether there is room for 64 databases and no more, and for another one in the place of one that stands there.
+fn has_room_for_64(alloc: Global, databases: &mut Databases) -> Result<bool, NoMemory> {
+    Ok(
+        are_64_put(alloc, databases)?
+            && is_put(alloc, databases, b"aa", b"")?
+            && is_put(alloc, databases, b"zz", b"limit databases 65 64")?,
+    )
 }
 
 #[test]
 fn databases_have_a_limit(rt: HostRuntime) -> Result<(), Fail> {
-    assert!(rt; has_room_for_64(rt.alloc())?);
+    assert!(rt; has_room_for_64(rt.alloc(), &mut Databases::new(rt.alloc()))?);
     Ok(())
 }
