@@ -376,6 +376,7 @@ impl Inputs {
         ensures never_falls { K.faults keeper.old ≤ K.faults keeper.new }
         ensures wants_never_fall { K.wants keeper.old ≤ K.wants keeper.new }
     {
+        // Made for what it says: the limits hold of what stands.
         let _ = self.databases.len();
         self.databases.remove(keeper, path)
     }
