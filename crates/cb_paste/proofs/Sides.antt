@@ -1,11 +1,11 @@
 -- What a node has, by what lies below it.
-use Rattle.std.proofs.Common.{◌≡◌, ℕ, ◌-◌, ◌/◌, ◌%◌, ◌==◌, ◌||◌, ◌≤◌, Bool, true, false, List, length, sym, subst, ◌∙◌, ap, inl, inr, arith}
+use Rattle.std.proofs.Common.{◌≡◌, ℕ, ◌-◌, ◌/◌, ◌%◌, ◌==◌, ◌||◌, ◌&&◌, ◌≤◌, Bool, true, false, List, length, refl, sym, subst, ◌∙◌, ap, inl, inr, arith}
 use Rattle.std.proofs.lemmas.Bool.{cases_eq, eq-eqb, ne_eqb, cond-true, cond-false}
 use Rattle.cb_paste.specs.declared.hides.Cell.{Cell}
 use Rattle.cb_paste.specs.Sets.{hides, Extends}
 use Rattle.cb_paste.specs.inner.Nodes.{side_of, with_side, in_cell, IsOver}
 use Rattle.cb_paste.proofs.Arenas.{hides_kept, hides_none, side_le}
-use Rattle.cb_paste.proofs.Nodes.{same_test}
+use Rattle.cb_paste.proofs.Nodes.{same_test, or_false}
 
 pub side_odd : (c : Cell) (n : ℕ) → n % 2 ≡ 1 → side_of c n ≡ c.odd
 unfolding side_of
@@ -118,3 +118,46 @@ combined {a} {m} {b} f e g l r ol or odd even le odds evens n =
             (evens ((n - 1) / 2) ∙ rw (hides_kept e l.even ol.even ((n - 1) / 2), hides_kept e r.even or.even ((n - 1) / 2)))
       ]
     ]
+
+side_none : (c : Cell) (n : ℕ) → c ≡ record { here = false; odd = 0; even = 0 } → side_of c n ≡ 0
+side_none c n e = no_side c n (ap (λ d. d.odd) e) (ap (λ d. d.even) e)
+
+-- the fork with the place 0 alone
+pub zero_alone : (sets : List (List ℕ)) (place n : ℕ) → place ≡ 0 → in_cell sets (record { here = true; odd = 0; even = 0 }) n ≡ (n == place)
+zero_alone sets place n z =
+    let none : Cell = record { here = false; odd = 0; even = 0 } in
+    zero_has sets none place n z
+    ∙ (ap (λ v. (n == place) || v) (sym (none_has sets none refl n) ∙ hides_none sets n) ∙ or_false (n == place))
+
+-- the fork with another place alone
+pub place_alone : {a b : List (List ℕ)} → Extends a b → (place below : ℕ) → (place ≡ 0 → ⊥) → ((k : ℕ) → hides b below k ≡ (k == (place - 1) / 2)) → (n : ℕ) → in_cell b (with_side (record { here = false; odd = 0; even = 0 }) place below) n ≡ (n == place)
+place_alone {a} {b} e place below pz is n =
+    let none : Cell = record { here = false; odd = 0; even = 0 } in
+    with_has e none (record { odd = omega arith; even = omega arith }) place below pz
+    (λ k. is k ∙ sym (ap (λ v. (k == (place - 1) / 2) || v) (ap (λ s. hides a s k) (side_none none place refl) ∙ hides_none a k) ∙ or_false (k == (place - 1) / 2))) n
+    ∙ (ap (λ v. (n == place) || v) (sym (none_has a none refl n) ∙ hides_none a n) ∙ or_false (n == place))
+
+-- what is in both where the one is within the other, or apart from it
+pub common_all : (x y : Bool) → (x ≡ true → y ≡ true) → x ≡ (x && y)
+common_all true y f = sym (f refl)
+common_all false y f = refl
+
+pub common_none : (x y : Bool) → (x ≡ true → y ≡ false) → false ≡ (x && y)
+common_none true y f = sym (f refl)
+common_none false y f = refl
+
+pub and_swap : (x y : Bool) → (x && y) ≡ (y && x)
+and_swap true true = refl
+and_swap true false = refl
+and_swap false true = refl
+and_swap false false = refl
+
+pub or_swap : (x y : Bool) → (x || y) ≡ (y || x)
+or_swap true true = refl
+or_swap true false = refl
+or_swap false true = refl
+or_swap false false = refl
+
+pub or_self : (b : Bool) → (b || b) ≡ b
+or_self true = refl
+or_self false = refl

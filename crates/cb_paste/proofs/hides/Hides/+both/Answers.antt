@@ -17,14 +17,14 @@ returns-then-a-eq0-clause-places t c = λ n.
 
 pub returns-clause-places : goal.returns-clause-places
 returns-clause-places t c = λ n.
-    let here : c.if-left.here ≡ (c.cell-left.result.here && c.cell-right.result.here) =
+    let here : c.if-left.here ≡ (c.in-Fork.cell.here && c.in-Fork-node.cell.here) =
     elim c.if-left.branch [
-      | then-left w ↦ w.here-is ∙ sym (ap (λ v. v && c.cell-right.result.here) w.if-left.true)
-      | else-left w ↦ w.here-is ∙ (w.if-left.false ∙ sym (ap (λ v. v && c.cell-right.result.here) w.if-left.false))
+      | then-left w ↦ w.here-is ∙ sym (ap (λ v. v && c.in-Fork-node.cell.here) w.if-left.true)
+      | else-left w ↦ w.here-is ∙ (w.if-left.false ∙ sym (ap (λ v. v && c.in-Fork-node.cell.here) w.if-left.false))
     ] in
     c.in_ok-made.ensures.places n
     ∙ (ap (λ h. in_cell c.both-2.new.self (record { here = h; odd = c.in_ok-odd.odd; even = c.in_ok-even.even }) n) here
-    ∙ (combined (λ x y. x && y) c.in_ok-odd.ensures.kept c.in_ok-even.ensures.kept c.cell-left.result c.cell-right.result
-    (over_more _ _ _ (omega (arith, c.requires.first)) c.cell-left.ensures.below) (over_more _ _ _ (omega (arith, c.requires.second)) c.cell-right.ensures.below)
+    ∙ (combined (λ x y. x && y) c.in_ok-odd.ensures.kept c.in_ok-even.ensures.kept c.in-Fork.cell c.in-Fork-node.cell
+    (over_more _ _ _ (omega (arith, c.requires.first)) c.in-Fork.ensures.below) (over_more _ _ _ (omega (arith, c.requires.second)) c.in-Fork-node.ensures.below)
     c.in_ok-odd.odd c.in_ok-even.even c.in_ok-odd.ensures.within c.in_ok-odd.ensures.places c.in_ok-even.ensures.places n
-    ∙ rw (← c.cell-left.ensures.places n, ← c.cell-right.ensures.places n)))
+    ∙ rw (← c.in-Fork.ensures.places n, ← c.in-Fork-node.ensures.places n)))
