@@ -8,7 +8,7 @@ use crate::fault::ExpandFault;
 use crate::front::read_front;
 use crate::mode::Mode;
 use crate::reading::read;
-use crate::source::{done_of, push_plain, work_of};
+use crate::source::{done_of, with_plain, work_of};
 use crate::standing::{is_plain_next, stand_plain};
 use crate::steps::{end_list, resume};
 use crate::work::{Call, Work};
@@ -103,6 +103,6 @@ pub fn expand(
     }
     let mut work = work_of(alloc, &tokens[front..])?;
     run(alloc, macros, mode, &mut work)?;
-    push_plain(&mut out, done_of(work))?;
-    Ok(out)
+    let all = with_plain(out, done_of(work))?;
+    Ok(all)
 }

@@ -92,6 +92,8 @@ impl Row {
         ensures tokens { self.new.tokens ≡ self.old.tokens }
         ensures kept { OnOk result (IsRow (signs self.new.tokens.items) self.new.ends.items) }
     {
+        let missing = self.tokens.len().saturating_sub(self.ends.len());
+        self.ends.reserve(missing)?;
         for height in self.ends.len()..self.tokens.len() {
             let ends = next_ends(self.tokens.as_slice(), self.ends.as_slice());
             self.ends.push(ends)?;

@@ -1,5 +1,5 @@
 //! Tokens of a source before they are expanded, and after it.
-ghost use Rattle.std.specs.Prelude.{◌≡◌, ◌++◌, IfOk, OnOk, map, reverse};
+ghost use Rattle.std.specs.Prelude.{◌≡◌, ◌++◌, IfOk, map, reverse};
 ghost use Rattle.cb_expand.specs.inner.Sources.{as_read, as_token, IsStart};
 
 use crate::row::Row;
@@ -63,16 +63,18 @@ pub(crate) fn done_of(work: Work) -> Vec<WorkToken>
     work.done
 }
 
-/// Puts tokens behind others, without their hide sets.
-pub(crate) fn push_plain(out: &mut Tokens, tokens: Vec<WorkToken>) -> Result<(), NoMemory>
-    ensures { OnOk result (out.new ≡ out.old ++ map as_token tokens.items) }
+/// Tokens with others behind them, of which the hide sets are dropped.
+pub(crate) fn with_plain(front: Tokens, tokens: Vec<WorkToken>) -> Result<Tokens, NoMemory>
+    ensures { IfOk result (λ all. all ≡ front ++ map as_token tokens.items) }
 {
+    let mut all = front.into_vec();
+    all.reserve(tokens.len())?;
     'tokens: for token in tokens {
-        out.push(Token {
+        all.push(Token {
             kind: token.kind,
             spaced: token.spaced,
             text: token.text,
         })?;
     }
-    Ok(())
+    Ok(Tokens::from_vec(all))
 }

@@ -22,6 +22,7 @@ pub(crate) fn is_plain_next(work: &Work) -> bool
 }
 
 /// Lets the next token stand, which is no identifier.
+#[inline(always)]
 fn stand_next(work: &mut Work) -> Result<(), NoMemory>
     requires next { IsPlainNext work.old }
     requires row { AreEnds (signs work.old.row.tokens.items) work.old.row.ends.items }

@@ -33,4 +33,4 @@ returns-clause-tokens c =
     let more : List Token = map as_token c.run.new.work.done.items in
     let r = ended ms mode _ c.in_ok-work.work c.run.new.work c.in_ok-work.ensures c.in_ok-run.ensures.ran more refl in
     let s = rest_replaced ms mode ts _ c.in_ok-front.front out c.in_ok-front.ensures (take_rest ts c.in_ok-front.front) more r in
-    subst (λ (out : List Token). IsReplacement ms mode ts out) (sym (c.in_ok-push_plain.ensures ∙ ap (λ v. out ++ map as_token v.items) c.done_of.ensures)) s
+    subst (λ (out : List Token). IsReplacement ms mode ts out) (sym (c.in_ok-all.ensures ∙ ap (λ v. out ++ map as_token v.items) c.done_of.ensures)) s
