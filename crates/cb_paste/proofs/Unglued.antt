@@ -13,7 +13,8 @@ use Rattle.cb_paste.specs.Sets.{hides, Extends}
 use Rattle.cb_paste.specs.Shades.{Shaded, shaded, all_shaded, first_spaced}
 use Rattle.cb_paste.specs.Joins.{Put, Real, reals}
 use Rattle.cb_paste.specs.Puts.{Given, seen_argument, given_at, AreArgumentsIn, shape_puts, next_glued, put_one, put_from}
-use Rattle.cb_paste.specs.inner.Uses.{has_parameter, is_used, Kept}
+use Rattle.cb_paste.specs.inner.Uses.{takes, is_used_plainly, Kept}
+use Rattle.cb_paste.specs.inner.Given.{tokens_of}
 use Rattle.cb_paste.specs.inner.Plain.{is_plain, plain_of, plain_all}
 use Rattle.cb_paste.proofs.Counts.{reals-append}
 use Rattle.cb_paste.proofs.Copies.{arguments_kept}
@@ -64,23 +65,23 @@ plain_take gs ps at p h e =
     ∙ ap (λ l. plain_all gs (take at ps) ++ l) (append-nil (plain_of gs p.spaced p.shape)))
 
 -- what the earlier parts use
-pub used_before : (ps : List Part) (at : ℕ) (i : ℕ) → is_used (take at ps) i ≡ true → is_used (take (at + 1) ps) i ≡ true
-used_before ps at i u = list_any_kept (λ p. has_parameter p.shape i) ps at u
+pub used_before : (ps : List Part) (at : ℕ) (raw : Bool) (i : ℕ) → is_used_plainly (take at ps) raw i ≡ true → is_used_plainly (take (at + 1) ps) raw i ≡ true
+used_before ps at raw i u = list_any_kept (λ p. takes p.shape false raw i) ps at u
 
-used_last : (ps : List Part) (at : ℕ) (p : Part) → at < length ps → p ≡ get_or ps at p → (i : ℕ) → has_parameter p.shape i ≡ true → is_used (take (at + 1) ps) i ≡ true
-used_last ps at p h e i u =
-    list_any_more (λ q. has_parameter q.shape i) ps at p h
-    ∙ or_right (list_any (λ q. has_parameter q.shape i) (take at ps)) (has_parameter (get_or ps at p).shape i) (ap (λ q. has_parameter q.shape i) (sym e) ∙ u)
+used_last : (ps : List Part) (at : ℕ) (p : Part) → at < length ps → p ≡ get_or ps at p → (raw : Bool) (i : ℕ) → takes p.shape false raw i ≡ true → is_used_plainly (take (at + 1) ps) raw i ≡ true
+used_last ps at p h e raw i u =
+    list_any_more (λ q. takes q.shape false raw i) ps at p h
+    ∙ or_right (list_any (λ q. takes q.shape false raw i) (take at ps)) (takes (get_or ps at p).shape false raw i) (ap (λ q. takes q.shape false raw i) (sym e) ∙ u)
 
-plain_kept : (gs hs : List Given) (spaced : Bool) (s : Shape) → ((i : ℕ) → has_parameter s i ≡ true → given_at gs i ≡ given_at hs i) → plain_of gs spaced s ≡ plain_of hs spaced s
+plain_kept : (gs hs : List Given) (spaced : Bool) (s : Shape) → ((raw : Bool) (i : ℕ) → takes s false raw i ≡ true → tokens_of raw (given_at gs i) ≡ tokens_of raw (given_at hs i)) → plain_of gs spaced s ≡ plain_of hs spaced s
 plain_kept gs hs spaced s k = sym (shape_plain gs spaced s) ∙ (ap (λ l. reals l) (shape_kept gs hs false spaced s k) ∙ shape_plain hs spaced s)
 
 -- one more part lies on the stack
-pub plain_step : {a b : List (List ℕ)} → Extends a b → (extra : ℕ) → extra ≤ length a → (old now : List Argument) (ps : List Part) (at : ℕ) (p : Part) → at < length ps → p ≡ get_or ps at p → AreArgumentsIn (length a) old → Kept (is_used (take (at + 1) ps)) old now → (below new : List Shaded) → new ≡ all_shaded (hides b extra) (plain_of (map (seen_argument b) now) p.spaced p.shape) ++ below → all_shaded (hides a extra) (plain_all (map (seen_argument a) old) (take at ps)) ++ new ≡ all_shaded (hides a extra) (plain_all (map (seen_argument a) old) (take (at + 1) ps)) ++ below
+pub plain_step : {a b : List (List ℕ)} → Extends a b → (extra : ℕ) → extra ≤ length a → (old now : List Argument) (ps : List Part) (at : ℕ) (p : Part) → at < length ps → p ≡ get_or ps at p → AreArgumentsIn (length a) old → Kept (is_used_plainly (take (at + 1) ps)) old now → (below new : List Shaded) → new ≡ all_shaded (hides b extra) (plain_of (map (seen_argument b) now) p.spaced p.shape) ++ below → all_shaded (hides a extra) (plain_all (map (seen_argument a) old) (take at ps)) ++ new ≡ all_shaded (hides a extra) (plain_all (map (seen_argument a) old) (take (at + 1) ps)) ++ below
 plain_step {a} {b} e extra h old now ps at p l is o k below new put =
     let gs : List Given = map (seen_argument a) old in
     let same : plain_of (map (seen_argument b) now) p.spaced p.shape ≡ plain_of gs p.spaced p.shape =
-    plain_kept (map (seen_argument b) now) (map (seen_argument b) old) p.spaced p.shape (λ i u. k.same b i (used_last ps at p l is i u))
+    plain_kept (map (seen_argument b) now) (map (seen_argument b) old) p.spaced p.shape (λ raw i u. k.same b raw i (used_last ps at p l is raw i u))
     ∙ ap (λ xs. plain_of xs p.spaced p.shape) (arguments_kept e old o) in
     ap (λ xs. all_shaded (hides a extra) (plain_all gs (take at ps)) ++ xs)
     (put ∙ (ap (λ f. all_shaded f (plain_of (map (seen_argument b) now) p.spaced p.shape) ++ below) (hides_same e extra h) ∙ ap (λ xs. all_shaded (hides a extra) xs ++ below) same))

@@ -1,9 +1,9 @@
 //! Arguments of calls.
-ghost use Rattle.std.specs.Prelude.{◌≡◌, ◌==◌, not, ℕ, List, map};
+ghost use Rattle.std.specs.Prelude.{◌≡◌, ℕ, List, map};
 ghost use Rattle.cb_paste.specs.Shades.{seen, AreIn};
 ghost use Rattle.cb_paste.specs.Puts.{seen_argument, given_at, AreArgumentsIn};
 ghost use Rattle.cb_paste.specs.inner.Given.{tokens_of};
-ghost use Rattle.cb_paste.specs.inner.Uses.{Kept};
+ghost use Rattle.cb_paste.specs.inner.Uses.{is_other, Kept};
 
 use crate::work_token::WorkToken;
 use std::alloc::Global;
@@ -18,50 +18,40 @@ pub struct Argument {
     pub expanded: Vec<WorkToken>,
 }
 
-/// The argument of a parameter as written; empty where there is none.
-pub(crate) fn raw_of(arguments: &[Argument], i: usize) -> &[WorkToken]
+/// The tokens of the argument of a parameter, those as written (`raw`) or those after its own expansion; none where there is
+/// no such argument.
+pub(crate) fn tokens_of(arguments: &[Argument], i: usize, raw: bool) -> &[WorkToken]
     ensures tokens { (sets : List (List ℕ)) → map (seen sets) result.now
-        ≡ (given_at (map (seen_argument sets) arguments.now) i).raw }
+        ≡ tokens_of raw (given_at (map (seen_argument sets) arguments.now) i) }
     ensures within { (count : ℕ) → AreArgumentsIn count arguments.now → AreIn count result.now }
 {
     if i >= arguments.len() {
         return &[];
     }
     let argument = &arguments[i];
-    argument.raw.as_slice()
-}
-
-/// The argument of a parameter after its own expansion; empty where there is none.
-pub(crate) fn expanded_of(arguments: &[Argument], i: usize) -> &[WorkToken]
-    ensures tokens { (sets : List (List ℕ)) → map (seen sets) result.now
-        ≡ (given_at (map (seen_argument sets) arguments.now) i).expanded }
-    ensures within { (count : ℕ) → AreArgumentsIn count arguments.now → AreIn count result.now }
-{
-    if i >= arguments.len() {
-        return &[];
+    if raw {
+        return argument.raw.as_slice();
     }
-    let argument = &arguments[i];
     argument.expanded.as_slice()
 }
 
-/// Takes the tokens of the argument of a parameter, as they are put in beside `##` or not; none where there is no such
-/// argument. The other arguments stay.
-pub(crate) fn take_argument(
+/// Takes these tokens away. The argument's other tokens stay, and so do the other arguments.
+pub(crate) fn take_tokens(
     alloc: Global,
     arguments: &mut [Argument],
     i: usize,
-    beside: bool,
+    raw: bool,
 ) -> Vec<WorkToken>
     ensures tokens { (sets : List (List ℕ)) → map (seen sets) result.items
-        ≡ tokens_of beside (given_at (map (seen_argument sets) arguments.old) i) }
+        ≡ tokens_of raw (given_at (map (seen_argument sets) arguments.old) i) }
     ensures within { (count : ℕ) → AreArgumentsIn count arguments.old → AreIn count result.items }
-    ensures others { Kept (λ j. not (j == i)) arguments.old arguments.new }
+    ensures others { Kept (is_other raw i) arguments.old arguments.new }
 {
     if i >= arguments.len() {
         return Vec::new(alloc);
     }
     let argument = &mut arguments[i];
-    if beside {
+    if raw {
         return mem::replace(&mut argument.raw, Vec::new(alloc));
     }
     mem::replace(&mut argument.expanded, Vec::new(alloc))

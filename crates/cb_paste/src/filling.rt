@@ -6,48 +6,51 @@ ghost use Rattle.cb_paste.specs.Puts.{seen_arguments, given_at, AreArgumentsIn, 
 ghost use Rattle.cb_paste.specs.inner.Slots.{token_count, seen_slots, AreSlotsIn};
 ghost use Rattle.cb_paste.specs.inner.Uses.{is_used, Kept};
 
-use crate::argument::{Argument, expanded_of, raw_of, take_argument};
+use crate::argument::{Argument, take_tokens, tokens_of};
 use crate::copying::put_argument;
 use crate::fault::PasteFault;
 use crate::hides::Hides;
 use crate::moving::put_moved;
-use crate::part::{Part, Shape, is_beside, lack};
+use crate::part::{Part, Shape, is_beside, is_looked_for, is_used};
 use crate::putting::put;
 use crate::quoting::quoted;
 use crate::slots::{Slots, own_slot};
 use cb_tokens::TokenKind;
 use std::alloc::Global;
 
-/// Puts copies of the tokens of a parameter's argument behind what stands, beside `##` or not.
-fn put_copied(
+/// Puts the tokens of a parameter's argument behind what stands, beside `##` or not: its own where it was seen that no later
+/// part takes them, and else copies.
+fn put_given(
     alloc: Global,
     arena: &mut Hides,
     slots: &mut Slots,
-    arguments: &[Argument],
+    arguments: &mut [Argument],
     part: &Part,
     i: usize,
+    later: &[Part],
     beside: bool,
     room: usize,
 ) -> Result<(), PasteFault>
     requires stands { AreSlotsIn (length arena.old) slots.old }
     requires few { token_count slots.old ≤ room }
-    requires given { AreArgumentsIn (length arena.old) arguments.now }
+    requires given { AreArgumentsIn (length arena.old) arguments.old }
     ensures put { OnOk result (seen_slots arena.new slots.new ≡ put_one (seen_slots arena.old slots.old) part.now.glued
-        (parameter_puts beside part.now.spaced (given_at (seen_arguments arena.old arguments.now) i))) }
+        (parameter_puts beside part.now.spaced (given_at (seen_arguments arena.old arguments.old) i))) }
     ensures long { result ≡ Err PasteFault.TooLong → room < length
         (reals (put_one (seen_slots arena.old slots.old) part.now.glued
-        (parameter_puts beside part.now.spaced (given_at (seen_arguments arena.old arguments.now) i)))) }
+        (parameter_puts beside part.now.spaced (given_at (seen_arguments arena.old arguments.old) i)))) }
     ensures within { OnOk result (AreSlotsIn (length arena.new) slots.new) }
     ensures fits { OnOk result (token_count slots.new ≤ room) }
+    ensures others { Kept (is_used later.now) arguments.old arguments.new }
     ensures kept { Extends arena.old arena.new }
 {
-    if beside {
-        let tokens = raw_of(arguments, i);
-        put_argument(alloc, arena, slots, tokens, part, true, room)?;
+    let tokens = tokens_of(arguments, i, beside);
+    if !is_looked_for(later, tokens.len()) || is_used(later, beside, i) {
+        put_argument(alloc, arena, slots, tokens, part, beside, room)?;
         return Ok(());
     }
-    let tokens = expanded_of(arguments, i);
-    put_argument(alloc, arena, slots, tokens, part, false, room)?;
+    let tokens = take_tokens(alloc, arguments, i, beside);
+    put_moved(alloc, arena, slots, tokens, part, beside, room)?;
     Ok(())
 }
 
@@ -83,16 +86,12 @@ fn put_part(
             Ok(())
         }
         Shape::Parameter(i) => {
-            if !lack(later, *i) {
-                put_copied(alloc, arena, slots, arguments, part, *i, beside, room)?;
-                return Ok(());
-            }
-            let tokens = take_argument(alloc, arguments, *i, beside);
-            put_moved(alloc, arena, slots, tokens, part, beside, room)?;
+            let i = *i;
+            put_given(alloc, arena, slots, arguments, part, i, later, beside, room)?;
             Ok(())
         }
         Shape::Quoted(i) => {
-            let text = quoted(alloc, raw_of(arguments, *i))?;
+            let text = quoted(alloc, tokens_of(arguments, *i, true))?;
             let slot = own_slot(TokenKind::Str, part.spaced, text);
             put(alloc, arena, slots, part.glued, slot, room)?;
             Ok(())

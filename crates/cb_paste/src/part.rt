@@ -2,7 +2,7 @@
 ghost use Rattle.std.specs.Prelude.{◌≡◌, ◌+◌, ◌<◌, ◌||◌, true, false, length, drop};
 ghost use Rattle.cb_paste.specs.Puts.{next_glued};
 ghost use Rattle.cb_paste.specs.inner.Plain.{is_plain};
-ghost use Rattle.cb_paste.specs.inner.Uses.{has_parameter, is_used};
+ghost use Rattle.cb_paste.specs.inner.Uses.{same_form, takes, is_used, is_used_plainly};
 
 use cb_paths::Bytes;
 use cb_tokens::TokenKind;
@@ -57,34 +57,55 @@ pub(crate) fn is_plain(parts: &[Part]) -> bool
     parts.iter().all(|part| !part.glued)
 }
 
-/// In how many parts a further use of an argument is looked for. Without a bound a long list would take the square of its
-/// length.
+/// In how many parts a further use of an argument is looked for at least. Without a bound a long list would take the square
+/// of its length.
 const LOOK: usize = 64;
 
-/// Whether a part puts in the argument of a parameter, or its string.
-fn has_parameter(part: &Part, i: usize) -> bool
-    ensures { result ≡ has_parameter part.now.shape i }
+/// Whether a further use of an argument of so many tokens is looked for in these parts: where they are few, or where that
+/// costs no more than a copy of the tokens.
+pub(crate) fn is_looked_for(parts: &[Part], count: usize) -> bool {
+    parts.len() <= LOOK || parts.len() <= count
+}
+
+/// Whether both are the tokens as written, or both those after the argument's own expansion.
+fn same_form(beside: bool, raw: bool) -> bool
+    ensures { result ≡ same_form beside raw }
+{
+    if beside {
+        return raw;
+    }
+    !raw
+}
+
+/// Whether a part, beside `##` or not, puts in the tokens of a parameter's argument: those as written (`raw`), or those after
+/// its own expansion.
+fn takes(part: &Part, beside: bool, raw: bool, i: usize) -> bool
+    ensures { result ≡ takes part.now.shape beside raw i }
 {
     match &part.shape {
         Shape::Fixed(..) => false,
-        Shape::Parameter(j) => *j == i,
-        Shape::Quoted(j) => *j == i,
+        Shape::Parameter(j) => same_form(beside, raw) && *j == i,
+        Shape::Quoted(j) => raw && *j == i,
     }
 }
 
-/// Whether one of the parts does.
-fn is_used(parts: &[Part], i: usize) -> bool
-    ensures { result ≡ is_used parts.now i }
+/// Whether one of the parts does, where no part behind them is glued.
+pub(crate) fn is_used(parts: &[Part], raw: bool, i: usize) -> bool
+    ensures { result ≡ is_used parts.now raw i }
 {
-    parts.iter().any(|part| has_parameter(part, i))
+    let mut at = 0;
+    'parts: while at < parts.len() {
+        if takes(&parts[at], is_beside(parts, at), raw, i) {
+            return true;
+        }
+        at += 1;
+    }
+    false
 }
 
-/// Whether it was seen that no part uses the argument of a parameter: in long lists that is not looked for.
-pub(crate) fn lack(parts: &[Part], i: usize) -> bool
-    ensures { result ≡ true → is_used parts.now i ≡ false }
+/// Whether one of the parts does, where none stands beside `##`.
+pub(crate) fn is_used_plainly(parts: &[Part], raw: bool, i: usize) -> bool
+    ensures { result ≡ is_used_plainly parts.now raw i }
 {
-    if parts.len() > LOOK {
-        return false;
-    }
-    !is_used(parts, i)
+    parts.iter().any(|part| takes(part, false, raw, i))
 }

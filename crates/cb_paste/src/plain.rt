@@ -4,13 +4,13 @@ ghost use Rattle.cb_paste.specs.Sets.{hides, Extends};
 ghost use Rattle.cb_paste.specs.Shades.{seen, waiting, all_shaded, first_spaced, AreIn};
 ghost use Rattle.cb_paste.specs.Joins.{reals};
 ghost use Rattle.cb_paste.specs.Puts.{seen_argument, seen_arguments, given_at, put_from, AreArgumentsIn};
-ghost use Rattle.cb_paste.specs.inner.Uses.{is_used, Kept};
+ghost use Rattle.cb_paste.specs.inner.Uses.{is_used_plainly, Kept};
 ghost use Rattle.cb_paste.specs.inner.Plain.{is_plain, plain_of, plain_all};
 
-use crate::argument::{Argument, expanded_of, raw_of, take_argument};
+use crate::argument::{Argument, take_tokens, tokens_of};
 use crate::fault::PasteFault;
 use crate::hides::Hides;
-use crate::part::{Part, Shape, lack};
+use crate::part::{Part, Shape, is_looked_for, is_used_plainly};
 use crate::quoting::quoted;
 use crate::site::Site;
 use crate::stacking::{copy_argument, move_argument, push_own};
@@ -26,7 +26,7 @@ fn count_of(arguments: &[Argument], part: &Part) -> usize
 {
     match &part.shape {
         Shape::Fixed(..) => 1,
-        Shape::Parameter(i) => expanded_of(arguments, *i).len(),
+        Shape::Parameter(i) => tokens_of(arguments, *i, false).len(),
         Shape::Quoted(_) => 1,
     }
 }
@@ -50,7 +50,8 @@ fn count_all(arguments: &[Argument], parts: &[Part], room: usize) -> Result<usiz
     Ok(count)
 }
 
-/// Puts a parameter's argument onto the stack after its own expansion: its own tokens where no earlier part uses it.
+/// Puts a parameter's argument onto the stack after its own expansion: its own tokens where it was seen that no earlier part
+/// takes them, and else copies.
 fn push_argument(
     alloc: Global,
     arena: &mut Hides,
@@ -68,21 +69,15 @@ fn push_argument(
         (first_spaced spaced (given_at (seen_arguments arena.old arguments.old) i).expanded)
         ++ waiting arena.old stack.old.items) }
     ensures within { OnOk result (AreIn (length arena.new) stack.new.items) }
-    ensures others { Kept (is_used earlier.now) arguments.old arguments.new }
+    ensures others { Kept (is_used_plainly earlier.now) arguments.old arguments.new }
     ensures kept { Extends arena.old arena.new }
 {
-    if !lack(earlier, i) {
-        copy_argument(
-            alloc,
-            arena,
-            expanded_of(arguments, i),
-            spaced,
-            extra,
-            stack,
-        )?;
+    let tokens = tokens_of(arguments, i, false);
+    if !is_looked_for(earlier, tokens.len()) || is_used_plainly(earlier, false, i) {
+        copy_argument(alloc, arena, tokens, spaced, extra, stack)?;
         return Ok(());
     }
-    let tokens = take_argument(alloc, arguments, i, false);
+    let tokens = take_tokens(alloc, arguments, i, false);
     move_argument(arena, tokens, spaced, extra, stack)?;
     Ok(())
 }
@@ -104,7 +99,7 @@ fn push_part(
         (plain_of (seen_arguments arena.old arguments.old) part.now.spaced part.now.shape)
         ++ waiting arena.old stack.old.items) }
     ensures within { OnOk result (AreIn (length arena.new) stack.new.items) }
-    ensures others { Kept (is_used earlier.now) arguments.old arguments.new }
+    ensures others { Kept (is_used_plainly earlier.now) arguments.old arguments.new }
     ensures kept { Extends arena.old arena.new }
 {
     match &part.shape {
@@ -119,7 +114,7 @@ fn push_part(
             Ok(())
         }
         Shape::Quoted(i) => {
-            let text = quoted(alloc, raw_of(arguments, *i))?;
+            let text = quoted(alloc, tokens_of(arguments, *i, true))?;
             push_own(TokenKind::Str, part.spaced, text, extra, stack)?;
             Ok(())
         }

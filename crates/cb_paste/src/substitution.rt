@@ -78,8 +78,8 @@ fn put_list(
 
 /// Puts the tokens of a macro's replacement list, with the arguments in the place of the parameters, onto a stack whose
 /// last token is the next one to be read, and answers how many there are. An object-like macro has no arguments.
-/// Where an argument is not used again, its own tokens go onto the stack: of what is left of the arguments nothing is said. It stops
-/// with `TooLong` as soon as it is certain that there is no room for all of them, and then leaves the stack as it was;
+/// Tokens of an argument that no part still to come takes are not copied: of what is left of the arguments nothing is said. It
+/// stops with `TooLong` as soon as it is certain that there is no room for all of them, and then leaves the stack as it was;
 /// out of memory it leaves there a part of them.
 pub fn substitute(
     alloc: Global,

@@ -19,7 +19,7 @@ pub returns-in_err-put_part-clause-long : goal.returns-in_err-put_part-clause-lo
 returns-in_err-put_part-clause-long c =
     let p = err_from_is_err_and c.from_residual-in_err-put_part.result c.from_residual-in_err-put_part.ensures.1 in
     let step = put_step (map (seen_argument c.args.arena.now) c.args.arguments.now) (map (seen_slot c.parts.arena) c.parts.slots) (put_one (map (seen_slot c.parts.arena) c.parts.slots) c.index-parts-at.result.glued (shape_puts (map (seen_argument c.parts.arena) c.parts.arguments) c.is_beside-beside.result c.index-parts-at.result.spaced c.index-parts-at.result.shape)) c.args.parts.now c.parts.at c.index-parts-at.result c.parts-test.true c.index-parts-at.is
-    (ap (λ ms. put_one (map (seen_slot c.parts.arena) c.parts.slots) c.index-parts-at.result.glued ms) (part_kept c.parts.invariant.kept c.args.arguments.now c.parts.arguments c.args.parts.now c.parts.at c.index-parts-at.result c.is_beside-beside.result c.parts-test.true c.index-parts-at.is c.requires c.parts.invariant.others)
+    (ap (λ ms. put_one (map (seen_slot c.parts.arena) c.parts.slots) c.index-parts-at.result.glued ms) (part_kept c.parts.invariant.kept c.args.arguments.now c.parts.arguments c.args.parts.now c.parts.at c.index-parts-at.result c.is_beside-beside.result c.parts-test.true c.index-parts-at.is c.is_beside-beside.ensures c.requires c.parts.invariant.others)
     ∙ ap (λ b. put_one (map (seen_slot c.parts.arena) c.parts.slots) c.index-parts-at.result.glued (shape_puts (map (seen_argument c.args.arena.now) c.args.arguments.now) b c.index-parts-at.result.spaced c.index-parts-at.result.shape)) c.is_beside-beside.ensures)
     ∙ c.parts.invariant.put in
     rw (p.1, p.2)
@@ -31,7 +31,7 @@ pub parts-preserved : goal.parts-preserved
 parts-preserved c = record {
   put = ap (λ d. put_from (map (seen_argument c.args.arena.now) c.args.arguments.now) d (drop (c.parts.at + 1) c.args.parts.now)) c.in_ok-put_part.ensures.put
       ∙ (put_step (map (seen_argument c.args.arena.now) c.args.arguments.now) (map (seen_slot c.parts.arena) c.parts.slots) (put_one (map (seen_slot c.parts.arena) c.parts.slots) c.index-parts-at.result.glued (shape_puts (map (seen_argument c.parts.arena) c.parts.arguments) c.is_beside-beside.result c.index-parts-at.result.spaced c.index-parts-at.result.shape)) c.args.parts.now c.parts.at c.index-parts-at.result c.parts-test.true c.index-parts-at.is
-      (ap (λ ms. put_one (map (seen_slot c.parts.arena) c.parts.slots) c.index-parts-at.result.glued ms) (part_kept c.parts.invariant.kept c.args.arguments.now c.parts.arguments c.args.parts.now c.parts.at c.index-parts-at.result c.is_beside-beside.result c.parts-test.true c.index-parts-at.is c.requires c.parts.invariant.others)
+      (ap (λ ms. put_one (map (seen_slot c.parts.arena) c.parts.slots) c.index-parts-at.result.glued ms) (part_kept c.parts.invariant.kept c.args.arguments.now c.parts.arguments c.args.parts.now c.parts.at c.index-parts-at.result c.is_beside-beside.result c.parts-test.true c.index-parts-at.is c.is_beside-beside.ensures c.requires c.parts.invariant.others)
       ∙ ap (λ b. put_one (map (seen_slot c.parts.arena) c.parts.slots) c.index-parts-at.result.glued (shape_puts (map (seen_argument c.args.arena.now) c.args.arguments.now) b c.index-parts-at.result.spaced c.index-parts-at.result.shape)) c.is_beside-beside.ensures)
       ∙ c.parts.invariant.put);
   within = c.in_ok-put_part.ensures.within;

@@ -3,8 +3,5 @@ use Rattle.cb_paste.proofs.filling.put_part.Goals as goal
 pub put-requires-clause-new : goal.put-requires-clause-new
 put-requires-clause-new c = c.own_slot-slot.ensures.within _
 
-pub put_moved-requires-clause-new : goal.put_moved-requires-clause-new
-put_moved-requires-clause-new c = c.take_argument-tokens.ensures.within _ c.requires.given
-
 pub put-requires-in-Quoted-clause-new : goal.put-requires-in-Quoted-clause-new
 put-requires-in-Quoted-clause-new c = c.own_slot-slot-in-Quoted.ensures.within _

@@ -2,7 +2,7 @@ use Rattle.std.proofs.Common.{◌≡◌, ◌+◌, ◌-◌, ◌++◌, map, take, 
 use Rattle.cb_paste.specs.Sets.{hides}
 use Rattle.cb_paste.specs.Shades.{waiting, all_shaded}
 use Rattle.cb_paste.specs.Puts.{seen_argument}
-use Rattle.cb_paste.specs.inner.Uses.{is_used, Kept}
+use Rattle.cb_paste.specs.inner.Uses.{is_used_plainly, Kept}
 use Rattle.cb_paste.specs.inner.Plain.{plain_all}
 use Rattle.cb_paste.proofs.Arenas.{extends_length, extends_trans}
 use Rattle.cb_paste.proofs.Copies.{arguments_more}
@@ -17,7 +17,7 @@ push_part-requires-clause-given c =
 pub parts-preserved : goal.parts-preserved
 parts-preserved c =
     let back : c.parts.at ≡ (c.parts.at - 1) + 1 = omega (arith, c.parts-test.true) in
-    let others = subst (λ n. Kept (is_used (take n c.args.parts.now)) c.args.arguments.now c.parts.arguments) back c.parts.invariant.others in
+    let others = subst (λ n. Kept (is_used_plainly (take n c.args.parts.now)) c.args.arguments.now c.parts.arguments) back c.parts.invariant.others in
     record {
       put = plain_step c.parts.invariant.kept c.args.extra c.requires.extra c.args.arguments.now c.parts.arguments c.args.parts.now (c.parts.at - 1) c.index-parts-at.result (omega (arith, c.parts.invariant.at, c.parts-test.true)) c.index-parts-at.is c.requires.given others (waiting c.parts.arena c.parts.stack.items) (waiting c.push_part.new.arena c.push_part.new.stack.items) c.in_ok-push_part.ensures.put
           ∙ (ap (λ n. all_shaded (hides c.args.arena.now c.args.extra) (plain_all (map (seen_argument c.args.arena.now) c.args.arguments.now) (take n c.args.parts.now)) ++ waiting c.parts.arena c.parts.stack.items) (sym back)
