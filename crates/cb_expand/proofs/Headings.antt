@@ -52,7 +52,7 @@ module _ (ms : Named) (t : Shaded) (ts : List Shaded) where
   pub no_name : is_identifier_kind t.kind ≡ false → asking ms None t ts ≡ Stands t ts
   no_name e = ap (λ b. if b then named (found_at ms t.text) t ts else Stands t ts) e
 
-  a_name : is_identifier_kind t.kind ≡ true → (o : Option (ℕ × Definition)) → found_at ms t.text ≡ o → asking ms None t ts ≡ named o t ts
+  pub a_name : is_identifier_kind t.kind ≡ true → (o : Option (ℕ × Definition)) → found_at ms t.text ≡ o → asking ms None t ts ≡ named o t ts
   a_name e o f = ap (λ b. if b then named (found_at ms t.text) t ts else Stands t ts) e ∙ ap (λ o. named o t ts) f
 
   pub no_macro : is_identifier_kind t.kind ≡ true → found_at ms t.text ≡ None → asking ms None t ts ≡ Stands t ts

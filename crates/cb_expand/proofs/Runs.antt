@@ -13,7 +13,7 @@ use Rattle.cb_expand.specs.declared.work.Call.{Call}
 use Rattle.cb_expand.specs.declared.work.Frame.{Frame}
 use Rattle.cb_expand.specs.declared.work.Work.{Work}
 use Rattle.cb_expand.specs.Heads.{Named}
-use Rattle.cb_expand.specs.Expansion.{Expands, IsReplacement, IsTooDear, bare, plain}
+use Rattle.cb_expand.specs.Expansion.{Expands, bare, plain, IsExpansion}
 use Rattle.cb_expand.specs.inner.Machine.{State, At, Steps, start, whole}
 use Rattle.cb_expand.specs.inner.Rows.{between, signs, kept, end_height, AreEnds}
 use Rattle.cb_expand.specs.inner.Works.{seen_all, pendings, row_of, outer_of, state_of, AreFrames, IsWork, Goes, Exceeds, weight, Stepped}
@@ -107,16 +107,16 @@ ends_none ss es e = subst (λ (es : List Ends). AreEnds ss es) (sym e) (record {
     none_by field commas (suc i) h = absurd (omega arith)
 
 pub started : (tokens : List Token) (w : Work) → w.row.tokens.items ≡ map as_read (reverse tokens) → AreEnds (signs w.row.tokens.items) w.row.ends.items → w.floor ≡ 0
-    → w.frames.items ≡ [] → w.done.items ≡ [] → w.used ≡ 0 → IsStart tokens w
+    → w.frames.items ≡ [] → w.done.items ≡ [] → (paid : ℕ) → w.used ≡ paid → paid ≤ 65536 → IsStart tokens paid w
 unfolding state_of
-started tokens w r k f g d u = record {
+started tokens w r k f g d paid u l = record {
   work = λ macros. record {
     row = k;
     tokens = subst (λ (xs : List WorkToken). AreIn (length w.arena) xs) (sym r) (read_in (length w.arena) (reverse tokens));
     done = subst (λ (xs : List WorkToken). AreIn (length w.arena) xs) (sym d) tt;
     floor = omega (arith, f);
     frames = subst (λ (xs : List Frame). AreFrames macros (length w.arena) w.floor (reverse xs)) (sym g) f;
-    call = omega (arith, u, ap length g);
+    call = omega (arith, u, l, ap length g);
   };
   state = λ ms.
       ap (λ (xs : List Frame). At (pendings ms w.arena (row_of w) w.floor (reverse xs)) (between w.floor (length (row_of w)) (row_of w)) (seen_all w.arena w.done.items)) g
@@ -150,17 +150,17 @@ some_frames ms w h a n = by_frames w.frames.items refl
         absurd (n (refl, e, no_tokens_left w.row.tokens.items (omega (arith, f))))
 
 -- at the end
-pub ended : (ms : Named) (mode : Mode) (tokens : List Token) (w new : Work) → IsStart tokens w → IsRunFrom ms mode w new → (out : List Token) → out ≡ map as_token new.done.items
-    → IsReplacement ms mode tokens out
-ended ms mode tokens w new s r out e =
+pub ended : (ms : Named) (mode : Mode) (tokens : List Token) (paid : ℕ) (w new : Work) → IsStart tokens paid w → IsRunFrom ms mode w new → (out : List Token) → out ≡ map as_token new.done.items
+    → (n : ℕ) × IsExpansion ms mode tokens out n × (paid + n ≤ 65536)
+ended ms mode tokens paid w new s r out e =
     let g = r.goes in
     let x : Expands ms mode (map bare tokens) (seen_all new.arena new.done.items) g.cost =
     step_end ms mode (map bare tokens) (seen_all new.arena new.done.items) g.cost
     (subst (λ st. Steps ms mode st (At [] [] (seen_all new.arena new.done.items)) g.cost) (s.state ms) g.steps) in
     (g.cost, (seen_all new.arena new.done.items, x, plain_seen new.arena new.done.items ∙ sym e), omega (arith, g.sum, s.used, r.limit))
 
-pub too_dear : (ms : Named) (mode : Mode) (tokens : List Token) (w : Work) → IsStart tokens w → Exceeds ms mode (state_of ms w None) w.used → IsTooDear ms mode tokens
-too_dear ms mode tokens w s x out n e =
+pub too_dear : (ms : Named) (mode : Mode) (tokens : List Token) (paid : ℕ) (w : Work) → IsStart tokens paid w → Exceeds ms mode (state_of ms w None) w.used → (out : List Token) (n : ℕ) → IsExpansion ms mode tokens out n → 65536 < paid + n
+too_dear ms mode tokens paid w s x out n e =
     let y : Exceeds ms mode (start (map bare tokens)) w.used = subst (λ st. Exceeds ms mode st w.used) (s.state ms) x in
     omega (arith, y e.0 n (whole e.1 refl), s.used)
 

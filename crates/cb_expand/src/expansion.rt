@@ -86,7 +86,8 @@ fn run(alloc: Global, macros: &Macros, mode: Mode, work: &mut Work) -> Result<()
 /// that it puts in, and each argument that is expanded costs that once. It is `TooLong` exactly where no expansion of the
 /// tokens costs `COST_LIMIT` or less, and then ends as soon as that is certain. Its other error is out of memory.
 ///
-/// Tokens before the first name of a macro are looked up once each, and only copied.
+/// Tokens are looked up once each, and only copied or replaced, up to the first name of a macro that puts in more than one token
+/// that is no identifier.
 pub fn expand(
     alloc: Global,
     macros: &Macros,
@@ -98,10 +99,10 @@ pub fn expand(
 {
     let mut out = Tokens::new(alloc);
     let front = read_front(alloc, macros, mode, tokens, &mut out)?;
-    if front == tokens.len() {
+    if front.count == tokens.len() {
         return Ok(out);
     }
-    let mut work = work_of(alloc, &tokens[front..])?;
+    let mut work = work_of(alloc, &tokens[front.count..], front.paid)?;
     run(alloc, macros, mode, &mut work)?;
     let all = with_plain(out, done_of(work))?;
     Ok(all)

@@ -1,17 +1,20 @@
-//! The front of a source, up to the first name of a macro: its tokens stand, and `defined` is answered there.
-ghost use Rattle.std.specs.Prelude.{◌≡◌, ◌<◌, ◌++◌, ◌&&◌, List, None, [], map, length, IfOk};
+//! The front of a source: its tokens stand, `defined` is answered, and names are replaced that become one token, up to the first
+//! name of another macro.
+ghost use Rattle.std.specs.Prelude.{◌≡◌, ◌<◌, ◌≤◌, ◌++◌, ◌&&◌, List, None, [], map, length, IfOk, IfSome};
 ghost use Rattle.cb_tokens.specs.Kinds.{is_identifier_kind};
 ghost use Rattle.cb_tokens.specs.declared.token.Token.{Token as Given};
 ghost use Rattle.cb_expand.specs.declared.mode.Mode.{Mode as Tongue};
 ghost use Rattle.cb_expand.specs.Arguments.{sign_of_token, is_open, is_close};
 ghost use Rattle.cb_expand.specs.Heads.{asked, asked_of};
 ghost use Rattle.cb_expand.specs.Expansion.{bare};
-ghost use Rattle.cb_expand.specs.inner.Fronts.{IsAsked, IsFront, AreRead};
+ghost use Rattle.cb_expand.specs.inner.Fronts.{IsAsked, IsFront, PutsOne, WasPut, AreRead};
 
+use crate::limits::COST_LIMIT;
 use crate::mode::Mode;
 use crate::numbers::digit_of;
 use crate::sign::sign_of;
-use cb_macro::Macros;
+use cb_macro::{Macro, Macros};
+use cb_paste::Shape;
 use cb_paths::NoMemory;
 use cb_tokens::{Token, TokenKind, Tokens};
 use std::alloc::Global;
@@ -80,8 +83,8 @@ pub(crate) enum Front {
     Stays,
     /// `defined`: whether the name behind it is that of a macro, and how many tokens that is with its parentheses.
     Asks(bool, usize),
-    /// The name of a macro.
-    Names,
+    /// The name of the macro in a place.
+    Names(usize),
 }
 
 /// What a token at the front of a source is that asks for no name.
@@ -93,7 +96,7 @@ fn unasked_front(macros: &Macros, token: &Token) -> Front
         return Front::Stays;
     }
     match macros.place_of(token.text.as_slice()) {
-        Some(_) => Front::Names,
+        Some(place) => Front::Names(place),
         None => Front::Stays,
     }
 }
@@ -112,23 +115,90 @@ fn front_of(macros: &Macros, mode: Mode, token: &Token, rest: &[Token]) -> Front
     }
 }
 
-/// Reads the first token of a source, where it does not name a macro, and with the name that it asks for: how many tokens were
-/// read. What became of them is put behind others.
+/// How much of a source was read from its front, and what that cost.
+#[derive(Clone, Copy)]
+pub(crate) struct Progress {
+    /// How many tokens were read.
+    pub(crate) count: usize,
+    /// What was paid for those that were replaced.
+    pub(crate) paid: usize,
+}
+
+/// What the name of a macro costs that puts in one token.
+const COST_OF_ONE: usize = 2;
+
+/// The one token that the name of a macro becomes, with this white space before it, where the macro has no parameters and that
+/// token is no identifier.
+fn one_token(alloc: Global, body: &Macro, spaced: bool) -> Result<Option<Token>, NoMemory>
+    ensures { IfOk result (λ made. IfSome made (λ token. (token.spaced ≡ spaced) × PutsOne body.now token)) }
+{
+    if body.is_function() {
+        return Ok(None);
+    }
+    let parts = body.parts();
+    if parts.len() != 1 {
+        return Ok(None);
+    }
+    let part = &parts[0];
+    if part.glued {
+        return Ok(None);
+    }
+    match &part.shape {
+        Shape::Fixed(kind, text) => {
+            if kind.is_identifier() {
+                return Ok(None);
+            }
+            let text = text.copy(alloc)?;
+            Ok(Some(Token {
+                kind: *kind,
+                spaced,
+                text,
+            }))
+        }
+        _ => Ok(None),
+    }
+}
+
+/// Puts the token that the macro in a place becomes behind others, where that is one alone: whether it did.
+fn put_name(
+    alloc: Global,
+    macros: &Macros,
+    place: usize,
+    spaced: bool,
+    out: &mut Tokens,
+) -> Result<bool, NoMemory>
+    requires { place < length macros.now }
+    ensures { IfOk result (WasPut macros.now place spaced out.old out.new) }
+{
+    match one_token(alloc, macros.at(place), spaced)? {
+        None => Ok(false),
+        Some(token) => {
+            out.push(token)?;
+            Ok(true)
+        }
+    }
+}
+
+/// Reads the first token of a source, with the name that it asks for: how many tokens were read, and what that cost, which is at
+/// most `room`. What became of them is put behind others. A name that may become more than one token is not read.
 fn read_first(
     alloc: Global,
     macros: &Macros,
     mode: Mode,
     tokens: &[Token],
+    room: usize,
     out: &mut Tokens,
-) -> Result<usize, NoMemory>
+) -> Result<Progress, NoMemory>
     requires { 0 < length tokens.now }
-    ensures { IfOk result (λ count. (read : List Given) × (out.new ≡ out.old ++ read) × AreRead macros.now mode tokens.now count read) }
+    ensures read { IfOk result (λ progress. (read : List Given) × (out.new ≡ out.old ++ read)
+        × AreRead macros.now mode tokens.now progress.count read progress.paid) }
+    ensures within { IfOk result (λ progress. progress.paid ≤ room) }
 {
     let token = &tokens[0];
     match front_of(macros, mode, token, &tokens[1..]) {
         Front::Stays => {
             out.push(token.copy(alloc)?)?;
-            Ok(1)
+            Ok(Progress { count: 1, paid: 0 })
         }
         Front::Asks(is_defined, count) => {
             let text = digit_of(alloc, is_defined)?;
@@ -137,31 +207,48 @@ fn read_first(
                 spaced: token.spaced,
                 text,
             })?;
-            Ok(count + 1)
+            let count = count + 1;
+            Ok(Progress { count, paid: 0 })
         }
-        Front::Names => Ok(0),
+        Front::Names(place) => {
+            if room < COST_OF_ONE {
+                return Ok(Progress { count: 0, paid: 0 });
+            }
+            let was_put = put_name(alloc, macros, place, token.spaced, out)?;
+            if !was_put {
+                return Ok(Progress { count: 0, paid: 0 });
+            }
+            Ok(Progress {
+                count: 1,
+                paid: COST_OF_ONE,
+            })
+        }
     }
 }
 
-/// Reads a source up to the first name of a macro that is not asked for: how many tokens were read. What became of them is put
-/// out.
+/// Reads a source up to the first name of a macro that is not asked for and may become more than one token: how many tokens were
+/// read, and what that cost. What became of them is put out.
 pub(crate) fn read_front(
     alloc: Global,
     macros: &Macros,
     mode: Mode,
     tokens: &[Token],
     out: &mut Tokens,
-) -> Result<usize, NoMemory>
+) -> Result<Progress, NoMemory>
     requires { out.old ≡ [] }
-    ensures { IfOk result (λ count. AreRead macros.now mode tokens.now count out.new) }
+    ensures read { IfOk result (λ progress. AreRead macros.now mode tokens.now progress.count out.new progress.paid) }
+    ensures limit { IfOk result (λ progress. progress.paid ≤ 65536) }
 {
     let mut at = 0;
+    let mut paid = 0;
     'tokens: while at < tokens.len() {
-        let count = read_first(alloc, macros, mode, &tokens[at..], out)?;
-        if count == 0 {
-            return Ok(at);
+        let room = COST_LIMIT - paid;
+        let read = read_first(alloc, macros, mode, &tokens[at..], room, out)?;
+        at += read.count;
+        paid += read.paid;
+        if read.count == 0 {
+            return Ok(Progress { count: at, paid });
         }
-        at += count;
     }
-    Ok(at)
+    Ok(Progress { count: at, paid })
 }

@@ -1,5 +1,5 @@
 //! Tokens of a source before they are expanded, and after it.
-ghost use Rattle.std.specs.Prelude.{◌≡◌, ◌++◌, IfOk, map, reverse};
+ghost use Rattle.std.specs.Prelude.{◌≡◌, ◌≤◌, ◌++◌, IfOk, map, reverse};
 ghost use Rattle.cb_expand.specs.inner.Sources.{as_read, as_token, IsStart};
 
 use crate::row::Row;
@@ -36,9 +36,10 @@ fn stacked(alloc: Global, tokens: &[Token]) -> Result<Vec<WorkToken>, NoMemory>
     Ok(stack)
 }
 
-/// The tokens of a source, of which none is read yet.
-pub(crate) fn work_of(alloc: Global, tokens: &[Token]) -> Result<Work, NoMemory>
-    ensures { IfOk result (IsStart tokens.now) }
+/// The tokens of a source, of which none is read yet, where so much was paid before.
+pub(crate) fn work_of(alloc: Global, tokens: &[Token], paid: usize) -> Result<Work, NoMemory>
+    requires { paid ≤ 65536 }
+    ensures { IfOk result (IsStart tokens.now paid) }
 {
     let done = Vec::with_capacity(alloc, tokens.len())?;
     let tokens = stacked(alloc, tokens)?;
@@ -52,7 +53,7 @@ pub(crate) fn work_of(alloc: Global, tokens: &[Token]) -> Result<Work, NoMemory>
         floor: 0,
         frames: Vec::new(alloc),
         done,
-        used: 0,
+        used: paid,
     })
 }
 

@@ -21,6 +21,7 @@ const CONDITIONS: &[(&str, &str, &str)] = &[
     ("X=1", "(defined X)", "(1)"),
     ("X=1", "1 + defined(Y) + X + defined X", "1 + 0 + 1 + 1"),
     ("f(a)=a", "defined f + f", "1 + f"),
+    ("X=1\nY=2", "Y>defined X Y", "2>1 2"),
 ];
 
 /// The same where `defined` is a name like any other.

@@ -6,7 +6,7 @@ use std::alloc::Global;
 use std::test::Fail;
 
 /// A chain of macros, each with twice the tokens of the one before: that with number k costs 3 * 2^(k + 1) - 3. And one
-/// that costs 1, and one that costs 1 and its argument's tokens and cost.
+/// that costs 1, one that costs 2, and one that costs 1 and its argument's tokens and cost.
 const DOUBLING: &str = r#"a0=x x
 a1=a0 a0
 a2=a1 a1
@@ -23,6 +23,7 @@ a12=a11 a11
 a13=a12 a12
 a14=a13 a13
 e=
+n=1
 f(x)=x"#;
 
 /// How many tokens a source expands to, and the bytes of their text; nothing where it is too long.
@@ -44,6 +45,8 @@ const SIZES: &[(&str, Option<(usize, usize)>)] = &[
     ("a13 a11 a9 a7 a5 a3 a2 a1 a0 e e", None),
     ("a13 a11 a9 a7 a5 a3 a2 a1 e e f(e)", Some((21_852, 43_703))),
     ("a13 a11 a9 a7 a5 a3 a2 a1 e e e f(e)", None),
+    ("n n a13 a11 a9 a7 a5 a3 a2 a1", Some((21_854, 43_707))),
+    ("n n a13 a11 a9 a7 a5 a3 a2 a1 e", None),
     ("f(a13 a11 a9 a7 a5 a3 a2 a1)", None),
     // an argument is expanded once: twice at each depth would not end within a test's time
     (

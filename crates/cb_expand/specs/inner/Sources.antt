@@ -18,11 +18,11 @@ as_read t = record { kind = t.kind; spaced = t.spaced; text = t.text; hides = 0 
 abbrev pub as_token : WorkToken → Token
 as_token t = record { kind = t.kind; spaced = t.spaced; text = t.text }
 
--- these tokens, of which none is read yet (own)
-pub record IsStart (tokens : List Token) (w : Work) : Type 0 where
+-- these tokens, of which none is read yet, where so much was paid before (own)
+pub record IsStart (tokens : List Token) (paid : ℕ) (w : Work) : Type 0 where
   pub work : (macros : ℕ) → IsWork macros w None
   pub state : (ms : Named) → state_of ms w None ≡ start (map bare tokens)
-  pub used : w.used ≡ 0
+  pub used : w.used ≡ paid
 
 -- nothing is left to do (own)
 abbrev pub IsEnd : Work → Option Call → Type 0
