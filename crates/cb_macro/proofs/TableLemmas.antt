@@ -1,5 +1,5 @@
 -- The entries of a table, as they are seen.
-use Rattle.std.proofs.Common.{◌≡◌, ◌<◌, ℕ, Bool, true, false, cond, List, [], ◌∷◌, map, Option, Some, None, option_map, find, position, length, refl, sym, ap, get_or, ◌∙◌, arith}
+use Rattle.std.proofs.Common.{◌≡◌, ◌<◌, ℕ, Bool, true, false, cond, List, [], ◌∷◌, map, Option, Some, None, option_map, find, position, length, refl, sym, ap, get_or, ◌∙◌, subst, arith}
 use Rattle.std.specs.Prelude.{if◌then◌else◌, swap_remove, slice_get, IsSomeAnd, MatchOption}
 use Rattle.std.specs.Option.{option_map_or}
 use Rattle.std.specs.Str.{bytes_eq}
@@ -11,7 +11,7 @@ use Rattle.std.proofs.lemmas.Option.{slice_get-get_or}
 use Rattle.indexmap.specs.IndexMap.{insert_entry, swap_remove_entry}
 use Rattle.indexmap.proofs.SetLemmas.{map-swap_remove}
 use Rattle.cb_macro.specs.Definitions.{Definition}
-use Rattle.cb_macro.specs.Maps.{found, found_at, with_definition, without}
+use Rattle.cb_macro.specs.Maps.{found, found_at, IsChange, with_definition, without}
 use Rattle.cb_macro.proofs.NameLists.{position-map}
 
 -- entries with keys that are seen as names
@@ -106,3 +106,10 @@ place-found es name (Some i) h =
     let first : find (λ p. bytes_eq name p.0) es ≡ Some (get_or es i no_entry) =
     find_at (λ p. bytes_eq name p.0) es ∙ (ap (λ n. slice_get es n) (is_first _ _ i (sym h)) ∙ there) in
     rw there (rw (← h, first))
+
+-- a definition takes the place of the one that was looked up
+pub change-seen : {K : Type 0} (key : K → List ℕ) (k : K) (old new : List (K × Definition)) (d : Definition) (o : Option Definition) (different : Bool)
+    → lookup (λ x. bytes_eq (key k) (key x)) new ≡ Some d → o ≡ lookup (λ x. bytes_eq (key k) (key x)) old
+    → ((body : Definition) → found (seen key new) (key k) ≡ Some body → IsChange o body different) → IsChange (found (seen key old) (key k)) d different
+change-seen key k old new d o different here before is =
+    subst (λ o. IsChange o d different) (before ∙ lookup-seen key (key k) old) (is d (sym (lookup-seen key (key k) new) ∙ here))

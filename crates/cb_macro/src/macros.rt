@@ -2,6 +2,7 @@
 ghost use Rattle.std.specs.Prelude.{◌≡◌, ◌==◌, ◌<◌, List, ℕ, [], Some, None, length, slice_get, option_map, IfOk, IfSome, OnOk, OnErr, IsSomeAnd, MatchOption, if◌then◌else◌};
 ghost use Rattle.std.specs.Option.{option_copied};
 ghost use Rattle.std.specs.Str.{bytes_eq};
+ghost use Rattle.cb_macro.specs.Definitions.{Definition};
 ghost use Rattle.cb_macro.specs.Maps.{found, found_at, IsChange, with_definition, without};
 
 use crate::body::Macro;
@@ -46,18 +47,20 @@ impl Macros {
         ensures kept { OnErr result (self.new ≡ self.old) }
     {
         let name = Vec::from_slice(alloc, defined.name.as_slice())?;
-        let different = self.differs(defined.name.as_slice(), &defined.body);
-        let _ = self.table.insert(name, defined.body)?;
-        Ok(different)
+        let other = self.table.insert(name, defined.body)?;
+        Ok(self.is_changed(defined.name.as_slice(), other))
     }
 
-    /// Whether a name has a definition that differs from this one.
-    fn differs(&self, name: &[u8], body: &Macro) -> bool
-        ensures { IsChange (found self.now name.now) body.now result }
+    /// Whether the definition of a name differs from the one whose place it has taken, if there was one.
+    fn is_changed(&self, name: &[u8], other: Option<Macro>) -> bool
+        ensures { (body : Definition) → found self.now name.now ≡ Some body → IsChange other body result }
     {
+        let Some(other) = other else {
+            return false;
+        };
         match self.get(name) {
             None => false,
-            Some(other) => !other.is_same(body),
+            Some(body) => !other.is_same(body),
         }
     }
 
