@@ -10,6 +10,10 @@ use Rattle.cb_inputs.specs.Texts.{ByPath, each_read}
 abbrev pub source_texts : ByPath Source → Texts
 source_texts sources = each_read (λ (source : Source). source.bytes) sources
 
+-- the trees of sources (own)
+abbrev pub source_trees : ByPath Source → ByPath (List Node)
+source_trees sources = each_read (λ (source : Source). source.tree) sources
+
 -- the tree of a source is that of its bytes (own)
 pub record IsReadSource (source : Source) : Type 0 where
   pub says : IsRead source.bytes (Sound source.tree)

@@ -1,5 +1,6 @@
 //! All inputs of an analysis.
 ghost use Rattle.std.specs.Prelude.{◌≡◌, ◌⊎◌, ◌≤◌, [], None, Some, length, IfOk, IfErr, OnOk, OnErr, option_map, ◌↔◌};
+ghost use Rattle.std.specs.Option.{option_copied};
 ghost use Rattle.std.specs.BTreeMap.{insert_entry};
 ghost use Rattle.std.specs.Ordering.{nat_cmp};
 ghost use Rattle.std.specs.Cmp.Lexicographic.{slice_cmp};
@@ -9,13 +10,13 @@ ghost use Rattle.cb_outside.specs.declared.kept.Table.TheVariants as table;
 ghost use Rattle.cb_inputs.specs.Texts.{bytes_in, database_amounts, first_over, source_amounts};
 ghost use Rattle.cb_inputs.specs.Analysis.{IsReadAnalysis};
 ghost use Rattle.cb_inputs.specs.Commands.{command_count};
-ghost use Rattle.cb_inputs.specs.Databases.{database_texts, IsReadDatabase};
-ghost use Rattle.cb_inputs.specs.Sources.{source_texts};
+ghost use Rattle.cb_inputs.specs.Databases.{database_entries, database_texts, IsReadDatabase};
+ghost use Rattle.cb_inputs.specs.Sources.{source_texts, source_trees};
 ghost use Rattle.cb_inputs.specs.declared.kept_analysis.KeptAnalysis.{KeptAnalysis as Analysis};
 ghost use Rattle.cb_inputs.specs.declared.kept_rows.KeptRows.{KeptRows as Rows};
 ghost use Rattle.cb_inputs.specs.Inputs.{PutAnalysis, PutDatabase, PutMeasurements, PutSource, RemoveDatabase, RemoveSource, after};
 ghost use Rattle.cb_inputs.specs.Outcomes.{Accepts, Denies, IsOutcome};
-ghost use Rattle.cb_inputs.specs.Readings.{IsKnown};
+ghost use Rattle.cb_inputs.specs.Readings.{IsKnown, Known};
 ghost use Rattle.cb_inputs.specs.Refusals.{IsOutside};
 ghost use Rattle.cb_inputs.specs.inner.Kept.{inputs_of, known_of};
 ghost use Rattle.cb_inputs.specs.declared.refused.Refused.{Refused as Refusal};
@@ -24,7 +25,7 @@ use crate::commands::{command_count, command_count_with};
 use crate::databases::{Databases, FreshDatabase};
 use crate::kept_analysis::{AnalysisFile, KeptAnalysis};
 use crate::kept_rows::Measurements;
-use crate::laws::one_outcome;
+use crate::laws::{one_known, one_outcome};
 use crate::refused::{LimitName, Refused};
 use crate::sources::Sources;
 use cb_outside::Keeper;
@@ -167,30 +168,95 @@ impl Inputs {
 
     /// The analysis file, if there is one.
     pub fn analysis(&self) -> &AnalysisFile
-        ensures { option_map (λ (kept : Analysis). kept.bytes) result.now ≡ self.now.analysis }
+        ensures text { option_map (λ (kept : Analysis). kept.bytes) result.now ≡ self.now.analysis }
+        ensures contents { (k : Known) → IsKnown self.now k
+            → option_map (λ (kept : Analysis). kept.contents) result.now ≡ k.analysis }
     {
+        one_known();
+        are_read(
+            &self.analysis,
+            &self.databases,
+            &self.sources,
+            &self.measurements,
+        );
         &self.analysis
+    }
+
+    /// What the analysis file says, if there is one.
+    pub fn contents(&self) -> Option<&cb_analysis::Analysis>
+        ensures { (k : Known) → IsKnown self.now k → option_copied result ≡ k.analysis }
+    {
+        one_known();
+        are_read(
+            &self.analysis,
+            &self.databases,
+            &self.sources,
+            &self.measurements,
+        );
+        self.analysis.contents()
     }
 
     /// The databases.
     pub fn databases(&self) -> &Databases
-        ensures { database_texts result.now ≡ self.now.databases }
+        ensures texts { database_texts result.now ≡ self.now.databases }
+        ensures entries { (k : Known) → IsKnown self.now k → database_entries result.now ≡ k.databases }
     {
+        one_known();
+        are_read(
+            &self.analysis,
+            &self.databases,
+            &self.sources,
+            &self.measurements,
+        );
         &self.databases
     }
 
     /// The sources.
     pub fn sources(&self) -> &Sources
-        ensures { source_texts result.now ≡ self.now.sources }
+        ensures texts { source_texts result.now ≡ self.now.sources }
+        ensures trees { (k : Known) → IsKnown self.now k → source_trees result.now ≡ k.sources }
     {
+        one_known();
+        are_read(
+            &self.analysis,
+            &self.databases,
+            &self.sources,
+            &self.measurements,
+        );
         &self.sources
     }
 
     /// The measurements, if there are some.
     pub fn measurements(&self) -> &Measurements
-        ensures { option_map (λ (kept : Rows). kept.bytes) result.now ≡ self.now.measurements }
+        ensures text { option_map (λ (kept : Rows). kept.bytes) result.now ≡ self.now.measurements }
+        ensures rows { (k : Known) → IsKnown self.now k
+            → option_map (λ (kept : Rows). kept.rows) result.now ≡ k.measurements }
     {
+        one_known();
+        are_read(
+            &self.analysis,
+            &self.databases,
+            &self.sources,
+            &self.measurements,
+        );
         &self.measurements
+    }
+
+    /// The number of the commands: the entries of the databases of all platforms. Inputs always say something, and
+    /// have at most 20,000 commands.
+    pub fn commands(&self) -> u64
+        ensures known { (k : Known) × IsKnown self.now k }
+        ensures count { (k : Known) → IsKnown self.now k → result ≡ command_count k }
+        ensures few { result ≤ 20000 }
+    {
+        one_known();
+        are_read(
+            &self.analysis,
+            &self.databases,
+            &self.sources,
+            &self.measurements,
+        );
+        command_count(self.analysis.contents(), &self.databases)
     }
 
     /// Puts a source at a path, in place of the one that stood there, and has the keeper keep it. It is refused for

@@ -20,7 +20,7 @@ pub use databases::Databases;
 pub use inputs::Inputs;
 pub use kept_analysis::{AnalysisFile, KeptAnalysis};
 pub use kept_rows::{KeptRows, Measurements};
-pub use laws::one_outcome;
+pub use laws::{one_known, one_outcome};
 pub use refused::{BodyFault, LimitName, Refused};
 pub use source::Source;
 pub use sources::Sources;
