@@ -1,0 +1,10 @@
+pub mod EqualTexts
+pub mod FirstFault
+pub mod FoundWords
+pub mod KindNames
+pub mod Lists
+pub mod OneSaying
+pub mod Refusals
+pub mod Sayings
+pub mod Spelled
+pub mod Steps
