@@ -12,16 +12,17 @@ use Rattle.cb_expand.specs.declared.sign.Sign.{Sign}
 use Rattle.cb_expand.specs.declared.work.Call.{Call}
 use Rattle.cb_expand.specs.declared.work.Frame.{Frame}
 use Rattle.cb_expand.specs.declared.work.Work.{Work}
-use Rattle.cb_expand.specs.Heads.{Named}
+use Rattle.cb_expand.specs.Heads.{Named, Stands}
 use Rattle.cb_expand.specs.Expansion.{Expands, bare, plain, IsExpansion}
 use Rattle.cb_expand.specs.inner.Machine.{State, At, Steps, start, whole}
 use Rattle.cb_expand.specs.inner.Rows.{between, signs, kept, end_height, AreEnds}
 use Rattle.cb_expand.specs.inner.Works.{seen_all, pendings, row_of, outer_of, state_of, AreFrames, IsWork, Goes, Exceeds, weight, Stepped}
-use Rattle.cb_expand.specs.inner.Readings.{rest_of, reading, Taken}
+use Rattle.cb_expand.specs.inner.Readings.{rest_of, reading, head_of, Taken}
 use Rattle.cb_expand.specs.inner.Sources.{as_read, as_token, IsStart, IsEnd, IsRunFrom}
 use Rattle.cb_expand.proofs.Heights.{map-reverse, height_none}
 use Rattle.cb_expand.proofs.Stepping.{step_none, step_more, step_end}
-use Rattle.cb_expand.proofs.Alike.{pendings_same, extends_none, in_front, in_back}
+use Rattle.cb_expand.proofs.Alike.{pendings_same, extends_none, in_append, in_front, in_back}
+use Rattle.cb_expand.proofs.Readings.{stood}
 use Rattle.cb_expand.proofs.Resuming.{between_added, between_none, length_row}
 
 module _ (ms : Named) (mode : Mode) where
@@ -188,6 +189,31 @@ popped_work macros w p t h e r more a f fs d u = record {
       (subst (λ n. AreFrames macros (length w.arena) n (reverse p.frames.items)) (sym f) (subst (λ v. AreFrames macros (length w.arena) w.floor (reverse v.items)) (sym fs) h.frames));
   call = omega (arith, h.call, u, ap (λ v. length v.items) fs);
 }
+
+-- a token that stands is dealt with: it stands behind what stood before
+pub stands_taken : (ms : Named) (mode : Mode) (w new : Work) (t : WorkToken) → IsWork (length ms) w None → t.hides ≤ length w.arena
+    → head_of ms mode w t ≡ Stands (seen w.arena t) (rest_of w) → new.done.items ≡ w.done.items ++ t ∷ [] → record w { done = new.done } ≡ new
+    → Taken ms mode w t new None
+unfolding state_of
+stands_taken ms mode w new t h x k d e =
+    let n = length_row w in
+    subst (λ (v : Work). Taken ms mode w t v None) e (record {
+      goes = record {
+        cost = 0;
+        steps = stood ms mode w.arena (length ms) w.floor (length (row_of w)) (row_of w) (row_of w) w.frames.items (seen w.arena t) t w.done.items new.done.items
+            (omega (arith, n, h.floor)) (omega arith) (sym (take_all (length (row_of w)) (row_of w) (omega arith))) d h.frames k;
+        sum = omega arith;
+      };
+      kept = record {
+        row = h.row;
+        tokens = h.tokens;
+        done = subst (λ (xs : List WorkToken). AreIn (length w.arena) xs) (sym d) (in_append (length w.arena) w.done.items (t ∷ []) h.done (x, tt));
+        floor = h.floor;
+        frames = h.frames;
+        call = h.call;
+      };
+      smaller = omega arith;
+    })
 
 pub popped_token : (count : ℕ) (ts us : List WorkToken) (t : WorkToken) → ts ≡ us ++ t ∷ [] → AreIn count ts → t.hides ≤ count
 popped_token count ts us t e h = (in_back count us (t ∷ []) (subst (λ (xs : List WorkToken). AreIn count xs) e h)).0

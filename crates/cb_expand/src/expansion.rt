@@ -97,7 +97,7 @@ pub fn expand(
     ensures tokens { IfOk result (λ out. IsReplacement macros.now mode tokens.now out) }
     ensures long { result ≡ Err ExpandFault.TooLong → IsTooDear macros.now mode tokens.now }
 {
-    let mut out = Tokens::new(alloc);
+    let mut out = Tokens::from_vec(Vec::with_capacity(alloc, tokens.len())?);
     let front = read_front(alloc, macros, mode, tokens, &mut out)?;
     if front.count == tokens.len() {
         return Ok(out);

@@ -163,8 +163,6 @@ pub(crate) fn read(
     ensures long { result ≡ Err ExpandFault.TooLong
         → Exceeds macros.now mode (state_of macros.now work.old None) work.old.used }
 {
-    let Some(token) = work.row.pop() else {
-        return Ok(None);
-    };
+    let token = work.row.pop();
     deal(alloc, macros, mode, work, token)
 }

@@ -1,6 +1,5 @@
 //! The tokens that are still to be read, with the ends of the arguments that begin at those below a call.
-ghost use Rattle.std.specs.Prelude.{◌≡◌, ◌+◌, ◌-◌, ◌≤◌, ◌<◌, ◌++◌, false, true, length, take, OnOk};
-ghost use Rattle.std.specs.Option.{option_to_list};
+ghost use Rattle.std.specs.Prelude.{◌≡◌, ◌+◌, ◌-◌, ◌≤◌, ◌<◌, [], ◌∷◌, ◌++◌, false, true, length, take, OnOk};
 ghost use Rattle.std.specs.List.{slice_index_or};
 ghost use Rattle.cb_expand.specs.declared.sign.Sign.{Sign as Kind};
 ghost use Rattle.cb_expand.specs.inner.Rows.{signs, kept, end_height, AreEnds, IsRow};
@@ -101,14 +100,15 @@ impl Row {
         Ok(())
     }
 
-    /// Takes the top token away.
-    pub(crate) fn pop(&mut self) -> Option<WorkToken>
-        requires { AreEnds (signs self.old.tokens.items) self.old.ends.items }
-        ensures tokens { self.old.tokens.items ≡ self.new.tokens.items ++ option_to_list result }
-        ensures rest { self.new.tokens.items ≡ take (length self.old.tokens.items - 1) self.old.tokens.items }
+    /// Takes the top token away, of which there is one.
+    #[inline(always)]
+    pub(crate) fn pop(&mut self) -> WorkToken
+        requires some { 0 < length self.old.tokens.items }
+        requires kept { AreEnds (signs self.old.tokens.items) self.old.ends.items }
+        ensures tokens { self.old.tokens.items ≡ self.new.tokens.items ++ result ∷ [] }
         ensures kept { AreEnds (signs self.new.tokens.items) self.new.ends.items }
     {
-        let token = self.tokens.pop();
+        let token = self.tokens.take_last();
         self.ends.truncate(self.tokens.len());
         token
     }

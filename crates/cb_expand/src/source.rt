@@ -31,7 +31,7 @@ fn stacked(alloc: Global, tokens: &[Token]) -> Result<Vec<WorkToken>, NoMemory>
     'tokens: while at > 0 {
         at -= 1;
         let token = read_of(alloc, &tokens[at])?;
-        stack.push(token)?;
+        stack.push_reserved(token);
     }
     Ok(stack)
 }
@@ -71,11 +71,11 @@ pub(crate) fn with_plain(front: Tokens, tokens: Vec<WorkToken>) -> Result<Tokens
     let mut all = front.into_vec();
     all.reserve(tokens.len())?;
     'tokens: for token in tokens {
-        all.push(Token {
+        all.push_reserved(Token {
             kind: token.kind,
             spaced: token.spaced,
             text: token.text,
-        })?;
+        });
     }
     Ok(Tokens::from_vec(all))
 }

@@ -100,14 +100,14 @@ returns-then-is_shown-clause-steps c = λ mode.
       goes = record {
         cost = 0;
         steps = enter_all c.args.macros.now mode w c.args.call (length c.args.macros.now) h (seen_all w.arena ts) l c.pop.new.self.items e c.in-Some.ensures.items _ fs _
-            c.if-is_shown.true c.in_ok-push.ensures.items refl (ap (λ v. seen_all w.arena v.items) c.replace-done.ensures.after ∙ ap (seen_all w.arena) c.new.ensures.items)
+            c.if-is_shown.true c.in_ok-push.ensures.items refl (ap (λ v. seen_all w.arena v.items) c.replace-done.ensures.after ∙ ap (seen_all w.arena) c.in_ok-room.ensures.items)
             (ap (λ v. pending_by c.args.macros.now w.arena (seen_all w.arena ts) c.args.call.place c.args.call.spaced c.args.call.hides c.args.call.arguments.items (reverse c.pop.new.self.items) c.args.call.lacks_rest (seen_all w.arena l.raw.items ∷ []) l.end w.floor (seen_all w.arena v.items)) c.replace-done.ensures.value);
         sum = omega arith;
       };
       kept = record {
         row = c.truncate.ensures.kept;
         tokens = subst (λ (xs : List WorkToken). AreIn (length w.arena) xs) (sym c.truncate.ensures.tokens) (in_take (length w.arena) c.saturating_sub-height.result w.row.tokens.items h.tokens);
-        done = subst (λ (xs : List WorkToken). AreIn (length w.arena) xs) (sym (ap (λ v. v.items) c.replace-done.ensures.after ∙ c.new.ensures.items)) tt;
+        done = subst (λ (xs : List WorkToken). AreIn (length w.arena) xs) (sym (ap (λ v. v.items) c.replace-done.ensures.after ∙ c.in_ok-room.ensures.items)) tt;
         floor = omega (arith, n, b.0);
         frames = subst (λ (xs : List Frame). AreFrames (length c.args.macros.now) (length w.arena) l.end xs) (sym (ap reverse c.in_ok-push.ensures.items ∙ reverse-append w.frames.items (_ ∷ [])))
             (record { place = h.call.0.place; hides = h.call.0.hides; arguments = h.call.0.arguments; left = b.2 }, b.1, subst (λ v. AreIn (length w.arena) v.items) (sym c.replace-done.ensures.value) h.done, h.frames);
@@ -134,7 +134,7 @@ returns-clause-steps c = λ mode.
       place = h.call.0.place;
       hides = h.call.0.hides;
       arguments = subst (λ (xs : List Argument). AreArgumentsIn (length w.arena) xs) (sym c.in_ok-push-2.ensures.items)
-          (arguments_append (length w.arena) _ _ h.call.0.arguments (b.1, subst (λ (xs : List WorkToken). AreIn (length w.arena) xs) (sym c.new-2.ensures.items) tt, tt));
+          (arguments_append (length w.arena) _ _ h.call.0.arguments (b.1, subst (λ (xs : List WorkToken). AreIn (length w.arena) xs) (sym c.new.ensures.items) tt, tt));
       left = b.2;
     } in
     record {
@@ -142,7 +142,7 @@ returns-clause-steps c = λ mode.
         cost = 0;
         steps = skip_all c.args.macros.now mode w c.args.call (length c.args.macros.now) h (seen_all w.arena ts) l c.pop.new.self.items e c.in-Some.ensures.items
             (record c.args.call { arguments = c.push-2.new.self; left = c.pop.new.self }) _ (seen_all w.arena us)
-            c.if-is_shown.false refl c.new-2.ensures.items (ap (seen_all w.arena) c.truncate-2.ensures.tokens ∙ map-take (seen w.arena) l.end ts)
+            c.if-is_shown.false refl c.new.ensures.items (ap (seen_all w.arena) c.truncate-2.ensures.tokens ∙ map-take (seen w.arena) l.end ts)
             (omega (arith, length-map ts (seen w.arena), n, b.0)) called
             (ap (λ xs. pending_by c.args.macros.now w.arena (seen_all w.arena ts) c.args.call.place c.args.call.spaced c.args.call.hides xs (reverse c.pop.new.self.items) c.args.call.lacks_rest [] l.end w.floor (seen_all w.arena w.done.items)) c.in_ok-push-2.ensures.items);
         sum = omega arith;
