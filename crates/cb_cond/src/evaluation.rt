@@ -38,13 +38,13 @@ fn meaning_in(language: Language, mut rest: Rest, frames: &mut [Frame]) -> Attem
     Attempt::Read(whole(frames, position))
 }
 
-/// The frames that are enough for most conditions: a whole run takes 6 % less time so than where a condition begins with
-/// 256 (`bench/specialise --shape conditions`).
-const FEW_FRAMES: usize = 16;
+/// The frames for conditions of fewer tokens than that, which never need as many: a whole run over such conditions takes 3 % less
+/// time so than where they begin with 32 (`bench/passes --shape macros`).
+const FEW_FRAMES: usize = 8;
 
-/// The frames that are enough for most conditions in which macros put their parentheses: a whole run takes 13 % less time so
-/// than where such a condition goes on with all frames (`bench/passes --shape conditions`).
-const MANY_FRAMES: usize = 256;
+/// The frames that are enough for most conditions, also where macros put their parentheses: a whole run takes 4 % less time so
+/// than with 16, where more of them are read twice (`bench/passes --shape conditions`).
+const MANY_FRAMES: usize = 32;
 
 /// The frames that are enough for each condition that is not too deep: in each open parenthesis and outside an operator of
 /// each of the ten levels may wait, and then there are the parentheses and the choices themselves. One stays free.
@@ -82,8 +82,10 @@ pub(crate) fn meaning_of(language: Language, rest: Rest) -> Option<Meaning>
     requires { ¬ (IsTooDeep (symbols language (left rest))) }
     ensures { IsReadAs (symbols language (left rest.entry)) result }
 {
-    if let Attempt::Read(meaning) = meaning_in_few(language, rest) {
-        return meaning;
+    if rest.len() < FEW_FRAMES {
+        if let Attempt::Read(meaning) = meaning_in_few(language, rest) {
+            return meaning;
+        }
     }
     if let Attempt::Read(meaning) = meaning_in_many(language, rest) {
         return meaning;

@@ -30,6 +30,13 @@ impl<'a> Rest<'a> {
         Some(token)
     }
 
+    /// The number of the tokens that are left.
+    pub(crate) fn len(&self) -> usize
+        ensures { result ≡ length (left self.now) }
+    {
+        self.tokens.len()
+    }
+
     /// Whether too few tokens are left for a condition that is too deep.
     pub(crate) fn is_short(&self) -> bool
         ensures short { result ≡ true → length (left self.now) ≤ SHORT }
